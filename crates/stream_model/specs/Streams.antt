@@ -1,5 +1,5 @@
 -- What is known of a stream: the bytes of it where it tells them, how many were taken, and how often it failed.
-use Rattle.std.specs.Prelude.{◌≡◌, ℕ, ◌+◌, ◌-◌, ◌^◌, ◌<◌, ◌≤◌, min, max, List, [], ◌++◌, length, take, Option, Some, None}
+use Rattle.std.specs.Prelude.{◌≡◌, ℕ, ◌+◌, ◌-◌, ◌^◌, ◌≤◌, min, max, List, [], ◌++◌, length, take, Option, Some, None}
 
 -- R holds of what a stream told before and tells now, if it tells; a stream that tells goes on telling
 abbrev pub FromTo : Option (List ℕ) → Option (List ℕ) → (List ℕ → List ℕ → Type 0) → Type 0
