@@ -1,0 +1,3 @@
+//! Where boxes stand: what a consistent assignment of boxes to the elements of a page is.
+//! Definitions alone, in `specs/`.
+#![tactic(auto)]
