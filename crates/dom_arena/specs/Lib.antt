@@ -1,1 +1,4 @@
 pub mod Shape
+pub mod Table
+pub mod Rows
+pub mod Children

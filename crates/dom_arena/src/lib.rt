@@ -1,6 +1,15 @@
 //! The document: a tree of elements and texts kept by number.
 #![tactic(auto)]
 
+mod children;
+mod copies;
+mod doc;
+mod fault;
+mod slot;
+mod table;
 mod tree;
 
+pub use children::Children;
+pub use doc::Doc;
+pub use fault::DocFault;
 pub use tree::{Attribute, Attributes as Attrs, Tree};

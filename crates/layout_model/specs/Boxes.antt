@@ -14,10 +14,10 @@ pub record Box : Type 0 where
   pub content_width : ℤ
   pub content_height : ℤ
 
--- A block without margins, borders, paddings and contents of a height of its own: it fills its containing block from
--- edge to edge (CSS 2.1 section 10.3.3), is as high as what is in it, which is nothing (section 10.6.3), and stands
--- at the top of its containing block, as everything before it has no height (section 9.4.1).
-pub record IsEmptyBlock (available : ℤ) (box : Box) : Type 0 where
+-- A block without margins, borders and paddings, with nothing but such blocks in it: it fills its containing block from
+-- edge to edge (CSS 2.1 section 10.3.3), is as high as what is in it, which has no height (section 10.6.3), and stands
+-- at the top of its containing block, as everything before it has no height either (section 9.4.1).
+pub record IsFlatBlock (available : ℤ) (box : Box) : Type 0 where
   pub left : box.left ≡ pos 0
   pub top : box.top ≡ pos 0
   pub width : box.width ≡ available

@@ -1,27 +1,27 @@
 -- The assignments of boxes to a page that are consistent: at each element the equations of its box hold.
 use Rattle.std.specs.Prelude.{◌≡◌, ℕ, ℤ}
 use Rattle.page_model.specs.Document.{Node, element, text, Nodes, no_nodes, node}
-use Rattle.page_model.specs.States.{Page}
-use Rattle.layout_model.specs.Advances.{Advances}
-use Rattle.layout_model.specs.Boxes.{Box, IsEmptyBlock, units_of_pixels}
+use Rattle.page_model.specs.Pages.{Page}
+use Rattle.layout_model.specs.Setting.{Setting}
+use Rattle.layout_model.specs.Boxes.{Box, IsFlatBlock, units_of_pixels}
 
--- what each element of a document is given, by its number
+-- what each element of a document is given, by its number; what other numbers are given plays no part
 abbrev pub Assignment : Type 0
 Assignment = ℕ → Box
 
 -- the equations hold at a node and below it, where its containing block's content box has this width
 abbrev mutual
   pub Holds : Assignment → ℤ → Node → Type 0
-  Holds a available (element id name attributes kids) = IsEmptyBlock available (a id) × AllHold a (a id).content_width kids
+  Holds a available (element id name attributes kids) = IsFlatBlock available (a id) × AllHold a (a id).content_width kids
   Holds a available (text id cs) = Unit {0}
 
   pub AllHold : Assignment → ℤ → Nodes → Type 0
   AllHold a available no_nodes = Unit {0}
   AllHold a available (node n ns) = Holds a available n × AllHold a available ns
 
--- The containing block of the root is the viewport. Texts have no width yet, so the table of advances is not looked at.
-abbrev pub Consistent : Advances → Page → Assignment → Type 0
-Consistent advances page a = Holds a (units_of_pixels page.viewport.width) page.document.root
+-- The containing block of the root is the viewport. Nothing has a width of its own yet, so the setting is not looked at.
+abbrev pub Consistent : Setting → Page → Assignment → Type 0
+Consistent setting page a = Holds a (units_of_pixels page.viewport.width) page.document.root
 
 -- two assignments give every element of a tree the same
 abbrev mutual

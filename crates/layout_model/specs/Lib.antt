@@ -1,3 +1,3 @@
-pub mod Advances
+pub mod Setting
 pub mod Boxes
 pub mod Consistent

@@ -2,6 +2,5 @@ pub mod Trees
 pub mod Document
 pub mod DocumentCode
 pub mod Jsonml
-pub mod Refusals
-pub mod Requests
-pub mod States
+pub mod Limits
+pub mod Pages

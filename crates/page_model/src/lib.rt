@@ -1,3 +1,3 @@
-//! What a page is: the document as a tree of numbered nodes, the requests that lines stand for, the states between them, and which request is refused with what.
+//! What a page is: the document as a tree of numbered nodes, the JSON that stands for it, the style sheets and the viewport.
 //! Definitions alone, in `specs/`.
 #![tactic(auto)]

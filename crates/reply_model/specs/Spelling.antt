@@ -1,7 +1,7 @@
 -- How the parts of a reply are spelled.
 use Rattle.std.specs.Prelude.{ℕ, List, [], ◌∷◌, ◌++◌, codes}
 use Rattle.std.specs.Fmt.{decimal}
-use Rattle.page_model.specs.Refusals.{Refusal, number_of, name_of}
+use Rattle.request_model.specs.Refusals.{Refusal, refusal_number, refusal_name}
 
 -- a reply's line ends with a newline
 abbrev pub end_line : List ℕ
@@ -21,4 +21,4 @@ ok_nodes_line first count = codes "ok" ++ (field (decimal first) ++ (field (deci
 
 -- the line of a refusal
 unfoldable pub error_line : Refusal → List ℕ
-error_line r = codes "error" ++ (field (decimal (number_of r)) ++ (field (name_of r) ++ end_line))
+error_line r = codes "error" ++ (field (decimal (refusal_number r)) ++ (field (refusal_name r) ++ end_line))

@@ -39,7 +39,7 @@ whole_lines (b ∷ bytes) = if b == newline then [] ∷ whole_lines bytes else o
 abbrev pub is_space : ℕ → Bool
 is_space b = (b == 32) || ((b == 9) || (b == 13))
 
--- a line without anything in it: it is passed over
+-- a line without anything in it: it is passed over, unless it is too long
 abbrev pub is_blank : List ℕ → Bool
 is_blank line = list_all is_space line
 

@@ -1,8 +1,7 @@
-use Rattle.std.proofs.Common.{sym, ◌∙◌, ap, encode_utf8_all}
-use Rattle.std.specs.Str.{chars}
+use Rattle.std.proofs.Common.{sym}
 use Rattle.std.proofs.lemmas.Str.{encodes-chars}
 use Rattle.port_core.proofs.text.Text.as_str.Goals as goal
 
--- The characters of a text are encoded as its bytes.
 pub returns-clause-bytes : goal.returns-clause-bytes
-returns-clause-bytes c = sym (encodes-chars c.as_str.result.now c.as_str.utf8) ∙ ap encode_utf8_all (ap (λ bs. chars bs) c.as_str.ensures.value ∙ c.self.view_is)
+returns-clause-bytes c =
+    rw (← c.self.view_is, ← c.as_str.ensures.value) (sym (encodes-chars c.as_str.result.now c.as_str.utf8))

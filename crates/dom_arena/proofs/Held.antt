@@ -1,0 +1,118 @@
+-- What a table that holds a tree says of each number.
+use Rattle.std.proofs.Common.{◌≡◌, ℕ, zero, suc, ◌+◌, ◌==◌, ◌||◌, List, [], ◌∷◌, true, false, Option, Some, None, option_map, is_some, IfSome, refl, sym, ap, ◌∙◌, inl, inr, arith, eqb-true}
+use Rattle.std.specs.List.{slice_get}
+use Rattle.std.proofs.lemmas.Bool.{cases_Bool, false≢true}
+use Rattle.page_model.specs.Document.{Node, element, text, Nodes, no_nodes, node, id_of, kids_of, ids_of, find, find_in, parent_in, parent_below, is_among, first, after, before}
+use Rattle.dom_arena.specs.declared.slot.Slot.{Slot}
+use Rattle.dom_arena.specs.declared.slot.Content.{Content}
+use Rattle.dom_arena.specs.Table.{slot_at, content_of, slot_of, Holds, HoldsAll, kids_at, preceding}
+use Rattle.dom_arena.proofs.Options.{is_some-or_else, is_some-if_some, or_or, IfSome-or_else, IfSome-if}
+
+-- ---- what is found
+
+-- the slot with this number has the content of this node
+abbrev HasContent : List (Option Slot) → ℕ → Node → Type 0
+HasContent slots i n = option_map (λ (s : Slot). s.content) (slot_at slots i) ≡ Some (content_of n)
+
+HasContent-slot : (slots : List (Option Slot)) (i id : ℕ) (up : Option ℕ) (place : ℕ) (n : Node) → i ≡ id → slot_at slots id ≡ Some (slot_of up place n) → HasContent slots i n
+HasContent-slot slots i id up place n e h =
+    ap (λ o. option_map (λ (s : Slot). s.content) o) (ap (slot_at slots) e ∙ h)
+
+mutual
+  pub Holds-find : (slots : List (Option Slot)) (up : Option ℕ) (place i : ℕ) (n : Node) → Holds slots up place n → IfSome (find i n) (HasContent slots i)
+  Holds-find slots up place i (element id name attributes kids) h =
+      IfSome-if (HasContent slots i) (i == id) (Some (element id name attributes kids)) (find_in i kids)
+      (λ t. HasContent-slot slots i id up place (element id name attributes kids) (eqb-true i id t) h.0)
+      (HoldsAll-find slots id 0 i kids h.1)
+  Holds-find slots up place i (text id cs) h =
+      IfSome-if (HasContent slots i) (i == id) (Some (text id cs)) None
+      (λ t. HasContent-slot slots i id up place (text id cs) (eqb-true i id t) h) tt
+
+  HoldsAll-find : (slots : List (Option Slot)) (up place i : ℕ) (ns : Nodes) → HoldsAll slots up place ns → IfSome (find_in i ns) (HasContent slots i)
+  HoldsAll-find slots up place i no_nodes h = tt
+  HoldsAll-find slots up place i (node n ns) h =
+      IfSome-or_else (HasContent slots i) (find i n) (find_in i ns) (Holds-find slots (Some up) place i n h.0) (HoldsAll-find slots up (suc place) i ns h.1)
+
+-- the top node's slot
+pub Holds-top : (slots : List (Option Slot)) (up : Option ℕ) (place : ℕ) (n : Node) → Holds slots up place n → slot_at slots (id_of n) ≡ Some (slot_of up place n)
+Holds-top slots up place (element id name attributes kids) h = h.0
+Holds-top slots up place (text id cs) h = h
+
+-- ---- children
+
+-- the slot with this number names this parent and its first place in this list, which begins at a place
+pub record IsKid (slots : List (Option Slot)) (i up from : ℕ) (xs : List ℕ) : Type 0 where
+  pub at : ℕ
+  pub content : Content
+  pub slot : slot_at slots i ≡ Some (record { parent = Some up; place = from + at; content = content })
+  pub after : after i xs ≡ slice_get xs (suc at)
+  pub before : (last : Option ℕ) → before i last xs ≡ preceding last xs at
+
+preceding-cons : (last : Option ℕ) (y : ℕ) (ys : List ℕ) (k : ℕ) → preceding (Some y) ys k ≡ preceding last (y ∷ ys) (suc k)
+preceding-cons last y ys zero = refl
+preceding-cons last y ys (suc k) = refl
+
+first-slice_get : (ys : List ℕ) → first ys ≡ slice_get ys 0
+first-slice_get [] = refl
+first-slice_get (y ∷ ys) = refl
+
+IsKid-here : (slots : List (Option Slot)) (i up from y : ℕ) (ys : List ℕ) (n : Node) → (i == y) ≡ true → slot_at slots y ≡ Some (slot_of (Some up) from n) → IsKid slots i up from (y ∷ ys)
+IsKid-here slots i up from y ys n t h = record {
+  at = 0;
+  content = content_of n;
+  slot = ap (slot_at slots) (eqb-true i y t) ∙ (h ∙ ap (λ p. Some (record { parent = Some up; place = p; content = content_of n })) (omega arith));
+  after = rw t (first-slice_get ys);
+  before = λ last. rw t refl;
+}
+
+IsKid-there : (slots : List (Option Slot)) (i up from y : ℕ) (ys : List ℕ) → (i == y) ≡ false → IsKid slots i up (suc from) ys → IsKid slots i up from (y ∷ ys)
+IsKid-there slots i up from y ys f k = record {
+  at = suc k.at;
+  content = k.content;
+  slot = k.slot ∙ ap (λ p. Some (record { parent = Some up; place = p; content = k.content })) (omega arith);
+  after = rw f k.after;
+  before = λ last. rw f (k.before (Some y) ∙ preceding-cons last y ys k.at);
+}
+
+pub HoldsAll-kid : (slots : List (Option Slot)) (i up from : ℕ) (ns : Nodes) → HoldsAll slots up from ns → is_among i (ids_of ns) ≡ true → IsKid slots i up from (ids_of ns)
+HoldsAll-kid slots i up from no_nodes h e = absurd (false≢true e)
+HoldsAll-kid slots i up from (node n ns) h e = elim (cases_Bool (i == id_of n)) [
+  | inl t ↦ IsKid-here slots i up from (id_of n) (ids_of ns) n t (Holds-top slots (Some up) from n h.0)
+  | inr f ↦ IsKid-there slots i up from (id_of n) (ids_of ns) f (HoldsAll-kid slots i up (suc from) ns h.1 (rw f at e))
+]
+
+-- the slot with this number is that of a child of this node
+pub record IsChild (slots : List (Option Slot)) (i : ℕ) (p : Node) : Type 0 where
+  pub kid : IsKid slots i (id_of p) 0 (ids_of (kids_of p))
+  pub kids : kids_at slots (id_of p) ≡ ids_of (kids_of p)
+
+mutual
+  pub Holds-parent : (slots : List (Option Slot)) (up : Option ℕ) (place i : ℕ) (n : Node) → Holds slots up place n → IfSome (parent_in i n) (IsChild slots i)
+  Holds-parent slots up place i (element id name attributes kids) h =
+      IfSome-if (IsChild slots i) (is_among i (ids_of kids)) (Some (element id name attributes kids)) (parent_below i kids)
+      (λ t. record { kid = HoldsAll-kid slots i id 0 kids h.1 t; kids = rw h.0 refl })
+      (HoldsAll-parent slots id 0 i kids h.1)
+  Holds-parent slots up place i (text id cs) h = tt
+
+  HoldsAll-parent : (slots : List (Option Slot)) (up place i : ℕ) (ns : Nodes) → HoldsAll slots up place ns → IfSome (parent_below i ns) (IsChild slots i)
+  HoldsAll-parent slots up place i no_nodes h = tt
+  HoldsAll-parent slots up place i (node n ns) h =
+      IfSome-or_else (IsChild slots i) (parent_in i n) (parent_below i ns) (Holds-parent slots (Some up) place i n h.0) (HoldsAll-parent slots up (suc place) i ns h.1)
+
+-- ---- what is found is the top node or has a parent
+
+mutual
+  pub find-parent : (i : ℕ) (n : Node) → is_some (find i n) ≡ (i == id_of n) || is_some (parent_in i n)
+  find-parent i (element id name attributes kids) =
+      is_some-if_some (i == id) (element id name attributes kids) (find_in i kids)
+      ∙ ap (λ b. (i == id) || b) (find_in-parent i kids ∙ sym (is_some-if_some (is_among i (ids_of kids)) (element id name attributes kids) (parent_below i kids)))
+  find-parent i (text id cs) = is_some-if_some (i == id) (text id cs) None
+
+  find_in-parent : (i : ℕ) (ns : Nodes) → is_some (find_in i ns) ≡ is_among i (ids_of ns) || is_some (parent_below i ns)
+  find_in-parent i no_nodes = refl
+  find_in-parent i (node n ns) =
+      is_some-or_else (find i n) (find_in i ns)
+      ∙ (ap (λ b. b || is_some (find_in i ns)) (find-parent i n)
+      ∙ (ap (λ b. ((i == id_of n) || is_some (parent_in i n)) || b) (find_in-parent i ns)
+      ∙ (or_or (i == id_of n) (is_some (parent_in i n)) (is_among i (ids_of ns)) (is_some (parent_below i ns))
+      ∙ ap (λ b. ((i == id_of n) || is_among i (ids_of ns)) || b) (sym (is_some-or_else (parent_in i n) (parent_below i ns))))))

@@ -1,0 +1,7 @@
+pub mod Options
+pub mod Held
+pub mod Readings
+pub mod Rows
+pub mod Numbered
+pub mod Loaded
+pub mod Found

@@ -1,0 +1,133 @@
+//! Copying a tree into a table of slots.
+ghost use Rattle.std.specs.Prelude.{◌≡◌, ◌+◌, ◌≤◌, ◌++◌, length, map, IfOk, OnOk};
+ghost use Rattle.page_model.specs.Trees.{elem, characters, size, sizes, trees_of};
+ghost use Rattle.page_model.specs.Document.{numbered, all_numbered, ids_of};
+ghost use Rattle.page_model.specs.Limits.{max_nodes};
+ghost use Rattle.dom_arena.specs.Shape.{shape};
+ghost use Rattle.dom_arena.specs.Rows.{rows, all_rows};
+
+use super::slot::{Content, Slot};
+use super::tree::Tree;
+use port_core::{NoMemory, NodeId, Seq, Text};
+use std::alloc::Global;
+
+fn copy_text(alloc: Global, text: &Text) -> Result<Text, NoMemory>
+    ensures { IfOk result (λ copy. copy ≡ text.now) }
+{
+    Text::new(alloc, text.as_str())
+}
+
+fn copy_attributes(
+    alloc: Global,
+    attributes: &[(Text, Text)],
+) -> Result<Seq<(Text, Text)>, NoMemory>
+    ensures { IfOk result (λ copy. copy ≡ attributes.now) }
+{
+    let mut copy = Seq::new(alloc);
+    for (name, value) in attributes {
+        let name = copy_text(alloc, name)?;
+        let value = copy_text(alloc, value)?;
+        copy.push((name, value))?;
+    }
+    Ok(copy)
+}
+
+/// Copies a tree behind the slots, as the child of this parent at this place, and answers its number.
+#[cycle(append)]
+pub fn append(
+    alloc: Global,
+    slots: &mut Seq<Option<Slot>>,
+    tree: &Tree,
+    parent: Option<NodeId>,
+    place: u32,
+) -> Result<NodeId, NoMemory>
+    requires room { length slots.old + size (shape tree.now) ≤ max_nodes }
+    ensures number { IfOk result (λ id. id ≡ length slots.old) }
+    ensures copied { OnOk result (slots.new ≡ slots.old ++ rows parent place (numbered (length slots.old) (shape tree.now))) }
+{
+    match tree {
+        Tree::Elem(name, attributes, kids) => append_element(
+            alloc,
+            slots,
+            name,
+            attributes.as_slice(),
+            kids.as_slice(),
+            parent,
+            place,
+        ),
+        Tree::Chars(text) => append_text(alloc, slots, text, parent, place),
+    }
+}
+
+fn append_text(
+    alloc: Global,
+    slots: &mut Seq<Option<Slot>>,
+    text: &Text,
+    parent: Option<NodeId>,
+    place: u32,
+) -> Result<NodeId, NoMemory>
+    requires room { length slots.old + 1 ≤ max_nodes }
+    ensures number { IfOk result (λ id. id ≡ length slots.old) }
+    ensures copied { OnOk result (slots.new ≡ slots.old ++ rows parent place (numbered (length slots.old) (characters text.now))) }
+{
+    let id = slots.len() as NodeId;
+    let content = Content::Chars(copy_text(alloc, text)?);
+    slots.push(Some(Slot {
+        parent,
+        place,
+        content,
+    }))?;
+    Ok(id)
+}
+
+/// The element's slot stays empty until its children, whose numbers it holds, stand behind it.
+#[cycle(append)]
+fn append_element(
+    alloc: Global,
+    slots: &mut Seq<Option<Slot>>,
+    name: &Text,
+    attributes: &[(Text, Text)],
+    kids: &[Tree],
+    parent: Option<NodeId>,
+    place: u32,
+) -> Result<NodeId, NoMemory>
+    requires room { length slots.old + size (elem name.now attributes.now (trees_of (map shape kids.now))) ≤ max_nodes }
+    ensures number { IfOk result (λ id. id ≡ length slots.old) }
+    ensures copied { OnOk result (slots.new ≡ slots.old ++ rows parent place (numbered (length slots.old) (elem name.now attributes.now (trees_of (map shape kids.now))))) }
+{
+    let id = slots.len() as NodeId;
+    slots.push(None)?;
+    let kids = append_all(alloc, slots, kids, id)?;
+    let name = copy_text(alloc, name)?;
+    let attributes = copy_attributes(alloc, attributes)?;
+    let content = Content::Element(name, attributes, kids);
+    slots.set(
+        id as usize,
+        Some(Slot {
+            parent,
+            place,
+            content,
+        }),
+    );
+    Ok(id)
+}
+
+/// Copies the children of this parent, and answers their numbers.
+#[cycle(append)]
+fn append_all(
+    alloc: Global,
+    slots: &mut Seq<Option<Slot>>,
+    kids: &[Tree],
+    parent: NodeId,
+) -> Result<Seq<NodeId>, NoMemory>
+    requires room { length slots.old + sizes (trees_of (map shape kids.now)) ≤ max_nodes }
+    ensures numbers { IfOk result (λ numbers. numbers ≡ ids_of (all_numbered (length slots.old) (trees_of (map shape kids.now)))) }
+    ensures copied { OnOk result (slots.new ≡ slots.old ++ all_rows parent 0 (all_numbered (length slots.old) (trees_of (map shape kids.now)))) }
+{
+    let mut numbers = Seq::new(alloc);
+    for i in 0..kids.len() {
+        let number = append(alloc, slots, &kids[i], Some(parent), i as u32)?;
+        numbers.push(number)?;
+    }
+    Ok(numbers)
+}

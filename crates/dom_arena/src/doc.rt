@@ -1,0 +1,128 @@
+ghost use Rattle.std.specs.Prelude.{◌≡◌, ◌≤◌, ◌<◌, ℕ, ◌↔◌, IsTrue, true, is_some, IsSome, IfOk, IsOkUnless, option_map, encode_utf8_all};
+ghost use Rattle.page_model.specs.Document.{Node, document, id_of, kids_of, name_of, find, parent_of, first_child_of, name_at, next_of, prev_of, AreDistinct, IsAmong, ids, height, node_count};
+ghost use Rattle.page_model.specs.Trees.{is_elem, size, depth};
+ghost use Rattle.page_model.specs.Limits.{max_nodes, max_depth};
+ghost use Rattle.dom_arena.specs.Children.{child_ids, AreFound};
+ghost use Rattle.dom_arena.specs.Shape.{shape};
+
+use super::children::Children;
+use super::fault::DocFault;
+use super::slot::Slot;
+use super::tree::Tree;
+use super::{copies, table};
+use port_core::{NodeId, Seq};
+use std::alloc::Global;
+use std::marker::Model;
+
+/// The root has the first number, and never leaves the document.
+const ROOT: NodeId = 0;
+
+/// A document: a tree of elements and texts, each with a number of its own.
+///
+/// The nodes stand in a vector, each at the index that is its number. A number is not used again: where its node has left the document, the vector keeps a `None`.
+#[derive(Debug, Drop)]
+pub struct Doc {
+    slots: Seq<Option<Slot>>,
+}
+
+impl Model for Doc {
+    ghost use Rattle.std.specs.Prelude.{length};
+    ghost use Rattle.page_model.specs.Document.{Document};
+    ghost use Rattle.page_model.specs.DocumentCode.{coded_document};
+
+    ghost Value = { Document };
+
+    ghost coded = { coded_document };
+
+    ghost use Rattle.dom_arena.specs.Table.{tree_in, IsTable};
+
+    ghost view = { λ d. record { root = tree_in d.slots; next_id = length d.slots } };
+
+    ghost invariant = { λ d. IsTable d.slots (tree_in d.slots) };
+}
+
+impl Doc {
+    /// The document of a tree, whose nodes get the numbers from 0 on in document order.
+    ///
+    /// Its time is linear in the number of nodes, and its recursion as deep as the tree.
+    pub fn new(alloc: Global, tree: &Tree) -> Result<Doc, DocFault>
+        requires element { is_elem (shape tree.now) ≡ true }
+        requires nodes { size (shape tree.now) ≤ max_nodes }
+        requires levels { depth (shape tree.now) ≤ max_depth }
+        ensures document { IfOk result (λ doc. doc ≡ document (shape tree.now)) }
+        ensures fault { IsOkUnless result DocFault.NoMemory }
+    {
+        let mut slots = Seq::new(alloc);
+        copies::append(alloc, &mut slots, tree, None, 0)?;
+        Ok(Doc { slots })
+    }
+
+    /// The root's number.
+    pub fn root(&self) -> NodeId
+        ensures value { result ≡ id_of self.now.root }
+
+        // what holds of each document
+        ensures element { IsSome (name_of self.now.root) }
+        ensures distinct { AreDistinct (ids self.now.root) }
+        ensures numbered { (i : ℕ) → IsAmong i (ids self.now.root) → i < self.now.next_id }
+        ensures few { node_count self.now.root ≤ max_nodes }
+        ensures low { height self.now.root ≤ max_depth }
+    {
+        // A read of the slots lets the proof see what holds of each document.
+        let _ = &self.slots;
+        ROOT
+    }
+
+    /// Whether the document has a node with this number.
+    pub fn is_live(&self, id: NodeId) -> bool
+        ensures { result ≡ is_some (find id self.now.root) }
+    {
+        table::live_slot(self.slots.as_slice(), id).is_some()
+    }
+
+    /// The name of an element.
+    pub fn tag(&self, id: NodeId) -> Option<&str>
+        ensures { option_map (λ s. s.now) result ≡ option_map encode_utf8_all (name_at id self.now.root) }
+    {
+        table::name(self.slots.as_slice(), id)
+    }
+
+    /// The first child of an element.
+    pub fn first_child(&self, id: NodeId) -> Option<NodeId>
+        ensures { result ≡ first_child_of id self.now.root }
+    {
+        table::first_kid(self.slots.as_slice(), id)
+    }
+
+    /// The children of an element, in order. A text has none.
+    pub fn children(&self, id: NodeId) -> Children<'_>
+        ensures children { result ≡ child_ids id self.now.root }
+        ensures found { (n : Node) → find id self.now.root ≡ Some n → AreFound self.now.root (kids_of n) }
+    {
+        Children::over(table::kids(self.slots.as_slice(), id))
+    }
+
+    /// The element that has this node among its children.
+    pub fn parent(&self, id: NodeId) -> Option<NodeId>
+        ensures { result ≡ parent_of id self.now.root }
+    {
+        table::parent(self.slots.as_slice(), id)
+    }
+
+    /// The sibling right after this node.
+    pub fn next(&self, id: NodeId) -> Option<NodeId>
+        ensures { result ≡ next_of id self.now.root }
+    {
+        table::next(self.slots.as_slice(), id)
+    }
+
+    /// The sibling right before this node.
+    pub fn prev(&self, id: NodeId) -> Option<NodeId>
+        ensures { result ≡ prev_of id self.now.root }
+    {
+        table::prev(self.slots.as_slice(), id)
+    }
+}
+
+#[cfg(test)]
+mod tests;

@@ -1,0 +1,83 @@
+//! Reading a table of slots: the slot with the number i stands at the index i, and `None` stands where no node has that number any more.
+ghost use Rattle.std.specs.Prelude.{◌≡◌, encode_utf8_all, option_map, ◌+◌, ◌-◌};
+ghost use Rattle.std.specs.Option.{option_copied};
+ghost use Rattle.page_model.specs.Document.{first};
+ghost use Rattle.dom_arena.specs.Table.{slot_at, kids_at, name_in, parent_in_slot, next_in, prev_in, preceding};
+
+use super::slot::{Content, Slot};
+use port_core::NodeId;
+
+/// The slot of a live node.
+pub fn live_slot(slots: &[Option<Slot>], id: NodeId) -> Option<&Slot>
+    ensures { option_copied result ≡ slot_at slots.now id }
+{
+    slots.get(id as usize)?.as_ref()
+}
+
+/// The numbers of a node's children: of a text and of a node that is not live, none.
+pub fn kids(slots: &[Option<Slot>], id: NodeId) -> &[NodeId]
+    ensures { result.now ≡ kids_at slots.now id }
+{
+    match live_slot(slots, id) {
+        Some(slot) => match &slot.content {
+            Content::Element(_, _, kids) => kids.as_slice(),
+            Content::Chars(_) => &[],
+        },
+        None => &[],
+    }
+}
+
+/// An element's name.
+pub fn name(slots: &[Option<Slot>], id: NodeId) -> Option<&str>
+    ensures { option_map (λ s. s.now) result ≡ option_map encode_utf8_all (name_in (slot_at slots.now id)) }
+{
+    match live_slot(slots, id) {
+        Some(slot) => match &slot.content {
+            Content::Element(name, _, _) => Some(name.as_str()),
+            Content::Chars(_) => None,
+        },
+        None => None,
+    }
+}
+
+/// The parent that a node's slot names.
+pub fn parent(slots: &[Option<Slot>], id: NodeId) -> Option<NodeId>
+    ensures { result ≡ parent_in_slot (slot_at slots.now id) }
+{
+    live_slot(slots, id)?.parent
+}
+
+/// The first child.
+pub fn first_kid(slots: &[Option<Slot>], id: NodeId) -> Option<NodeId>
+    ensures { result ≡ first (kids_at slots.now id) }
+{
+    kids(slots, id).first().copied()
+}
+
+/// What stands right before a place of a list.
+fn before(ids: &[NodeId], place: u32) -> Option<NodeId>
+    ensures { result ≡ preceding None ids.now place }
+{
+    if place == 0 {
+        return None;
+    }
+    ids.get(place as usize - 1).copied()
+}
+
+/// The next child of the parent.
+pub fn next(slots: &[Option<Slot>], id: NodeId) -> Option<NodeId>
+    ensures { result ≡ next_in slots.now (slot_at slots.now id) }
+{
+    let slot = live_slot(slots, id)?;
+    kids(slots, slot.parent?)
+        .get(slot.place as usize + 1)
+        .copied()
+}
+
+/// The previous child of the parent.
+pub fn prev(slots: &[Option<Slot>], id: NodeId) -> Option<NodeId>
+    ensures { result ≡ prev_in slots.now (slot_at slots.now id) }
+{
+    let slot = live_slot(slots, id)?;
+    before(kids(slots, slot.parent?), slot.place)
+}

@@ -1,0 +1,2 @@
+pub mod AttributesOf
+pub mod TreesOfItems

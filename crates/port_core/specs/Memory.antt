@@ -1,0 +1,70 @@
+-- What a source or a sink in memory is, and what its next call answers and leaves.
+use Rattle.std.specs.Prelude.{ℕ, ◌+◌, ◌-◌, ◌<◌, ◌≤◌, ◌==◌, min, nat_le, List, ◌++◌, length, take, drop, Option, Some, None, Bool, false, if◌then◌else◌}
+use Rattle.std.specs.Option.{ForSome}
+use Rattle.stream_model.specs.Streams.{last_count}
+use Rattle.port_core.specs.declared.ports.Pull.{Pull}
+use Rattle.port_core.specs.declared.ports.Pull.TheVariants as pull
+use Rattle.port_core.specs.declared.ports.Push.{Push}
+use Rattle.port_core.specs.declared.ports.Push.TheVariants as push
+
+-- a source in memory: the bytes that are left, how many were taken, the most that a call gives, the place at which it fails, and how often it failed
+pub record Supply : Type 0 where
+  pub left : List ℕ
+  pub taken : ℕ
+  pub piece : ℕ
+  pub fail_at : Option ℕ
+  pub faults : ℕ
+
+-- the source stands at the place at which it fails, if there is one
+abbrev pub is_at : Option ℕ → ℕ → Bool
+is_at None taken = false
+is_at (Some at) taken = taken == at
+
+-- how many of the next bytes stand before the place at which the source fails, if there is one
+abbrev pub up_to : Option ℕ → ℕ → ℕ → ℕ
+up_to None taken count = count
+up_to (Some at) taken count = min count (at - taken)
+
+-- what holds of a source: it stands within its bytes, and no further than the place at which it fails
+pub record IsSupply (bytes : List ℕ) (taken piece : ℕ) (fail_at : Option ℕ) (faults : ℕ) : Type 0 where
+  pub some : 0 < piece
+  pub within : taken ≤ length bytes
+  pub ahead : ForSome fail_at (λ at. taken ≤ at)
+  pub counted : faults ≤ last_count
+
+-- how many bytes a pull gives that gives any: the least of the piece, the buffer's room, what is left and the way to the failing place
+abbrev pub portion : Supply → ℕ → ℕ
+portion s room = up_to s.fail_at s.taken (min (min s.piece room) (length s.left))
+
+-- what a pull answers that has so much room
+abbrev pub pull_answer : Supply → ℕ → Pull
+pull_answer s room =
+    if is_at s.fail_at s.taken then pull.Failed else (if length s.left == 0 then pull.End else pull.Bytes (portion s room))
+
+-- what a pull leaves
+abbrev pub after_pull : Supply → Pull → Supply
+after_pull s (pull.Bytes n) = record s { left = drop n s.left; taken = s.taken + n }
+after_pull s pull.End = s
+after_pull s pull.Failed = record s { faults = min (s.faults + 1) last_count }
+
+-- a sink in memory: the bytes that it holds, how many it can hold, and how often it failed
+pub record Store : Type 0 where
+  pub bytes : List ℕ
+  pub room : ℕ
+  pub faults : ℕ
+
+-- what holds of a sink: its bytes are no more than its room, for which there is memory
+pub record IsStore (bytes : List ℕ) (room capacity faults : ℕ) : Type 0 where
+  pub within : length bytes ≤ room
+  pub taken : room ≤ capacity
+  pub counted : faults ≤ last_count
+
+-- what a push of bytes answers
+abbrev pub push_answer : Store → List ℕ → Push
+push_answer s bytes = if nat_le (length s.bytes + length bytes) s.room then push.Done else push.Failed
+
+-- what a push of bytes leaves: one that fails appends what fits
+abbrev pub after_push : Store → List ℕ → Push → Store
+after_push s bytes push.Done = record s { bytes = s.bytes ++ bytes }
+after_push s bytes push.Failed =
+    record s { bytes = s.bytes ++ take (s.room - length s.bytes) bytes; faults = min (s.faults + 1) last_count }

@@ -1,0 +1,87 @@
+ghost use Rattle.std.specs.Prelude.{◌≡◌, ◌↔◌, ◌+◌, ◌<◌, ◌≤◌, [], ◌++◌, length, IsTrue, IfOk};
+ghost use Rattle.stream_model.specs.Lines.{max_line};
+ghost use Rattle.port_core.specs.Draft.{Absorbs, Settles};
+
+use crate::NoMemory;
+use crate::bytes::append;
+use crate::reader::Line;
+use std::alloc::Global;
+use std::marker::Model;
+
+/// How many bytes a line may have, its newline not counted.
+const MAX_LINE: usize = 4_194_304;
+
+/// How many bytes of a line are kept: one more than a line may have shows that it is too long.
+const ROOM: usize = MAX_LINE + 1;
+
+/// What is kept of a line. Its room is taken when it is made.
+#[derive(Debug, Drop)]
+pub struct Draft {
+    bytes: Vec<u8>,
+}
+
+impl Model for Draft {
+    ghost use Rattle.std.specs.Prelude.{ℕ, ◌+◌, ◌≤◌, List, length, vec_capacity};
+    ghost use Rattle.stream_model.specs.Lines.{max_line};
+
+    ghost Value = { List ℕ };
+
+    ghost view = { λ d. d.bytes.items };
+
+    ghost invariant = { λ d. (length d.bytes.items ≤ max_line + 1) × (max_line + 1 ≤ vec_capacity d.bytes) };
+}
+
+impl Draft {
+    /// An empty draft.
+    pub fn new(alloc: Global) -> Result<Draft, NoMemory>
+        ensures { IfOk result (λ d. d ≡ []) }
+    {
+        Ok(Draft {
+            bytes: Vec::with_capacity(alloc, ROOM)?,
+        })
+    }
+
+    /// What is kept.
+    pub fn bytes(&self) -> &[u8]
+        ensures { result.now ≡ self.now }
+    {
+        self.bytes.as_slice()
+    }
+
+    /// Whether nothing is kept.
+    pub fn is_empty(&self) -> bool
+        ensures { IsTrue result ↔ (self.now ≡ []) }
+    {
+        self.bytes.is_empty()
+    }
+
+    /// Drops what is kept, and not the room.
+    pub fn clear(&mut self)
+        ensures { self.new ≡ [] }
+    {
+        self.bytes.clear();
+    }
+
+    /// Takes up a piece of the line, as far as the room goes.
+    pub fn absorb(&mut self, piece: &[u8])
+        ensures { Absorbs self.old piece.now self.new }
+    {
+        let room = ROOM - self.bytes.len();
+        if piece.len() <= room {
+            append(&mut self.bytes, piece);
+            return;
+        }
+        append(&mut self.bytes, &piece[..room]);
+    }
+
+    /// Tells a finished line from one that is too long, of which nothing is kept.
+    pub fn settle(&mut self) -> Line
+        ensures { Settles result self.old self.new }
+    {
+        if self.bytes.len() <= MAX_LINE {
+            return Line::Whole;
+        }
+        self.bytes.clear();
+        Line::TooLong
+    }
+}

@@ -1,0 +1,5 @@
+pub mod WalkLemmas
+pub mod ReplyLemmas
+pub mod LoadLemmas
+pub mod DumpLemmas
+pub mod ServeLemmas

@@ -1,0 +1,214 @@
+-- How a script is answered line by line.
+use Rattle.std.proofs.Common.{◌≡◌, ◌∙◌, sym, ap, refl, subst, ℕ, ◌<◌, ◌+◌, ◌-◌, List, [], ◌∷◌, ◌++◌, length, Bool, true, false, Option, Some, None, IfNone, IfSome, append_assoc, append-nil, arith}
+use Rattle.std.proofs.lemmas.Bool.{lt-ltb}
+use Rattle.stream_model.specs.Streams.{FromTo, Appends, Grew, TakesCount, NothingLeft}
+use Rattle.stream_model.specs.Lines.{lines, max_line}
+use Rattle.stream_model.specs.Ledger.{Event, Log, pairs, events, mark}
+use Rattle.page_model.specs.Pages.{State}
+use Rattle.request_model.specs.Refusals.{line_too_long}
+use Rattle.request_model.specs.Requests.{Asked, broken, asked}
+use Rattle.request_model.specs.States.{answer, judged, left_by, next, asks_edit}
+use Rattle.reply_model.specs.Replies.{Course, start, AreReplies, Replies, IsReply, Moves, AreLogsOf, latest}
+use Rattle.port_core.specs.Reader.{Reader, ahead, Gives, CountsFaults}
+use Rattle.port_core.specs.declared.reader.Line.{Line}
+use Rattle.port_core.specs.declared.reader.Line.TheVariants.{TooLong, End}
+use Rattle.port_core.proofs.StreamLemmas.{FromTo-joins, FromTo-weaker, Grew-joins, TakesCount-joins}
+use Rattle.relayout_cli.specs.Runs.{the_setting, AnswersTo, Served, LogsOnce, AllOnce}
+use Rattle.relayout_cli.specs.Coming.{Advances}
+use Rattle.relayout_cli.specs.Turns.{own_logs}
+
+-- ---- ledgers
+
+events-append : (a b : List Log) → events (a ++ b) ≡ events a ++ events b
+events-append [] b = refl
+events-append (log ∷ a) b = ap (λ (es : List Event). mark ∷ es) (ap (λ (es : List Event). pairs log ++ es) (events-append a b) ∙ sym (append_assoc (pairs log) (events a) (events b)))
+
+AllOnce-append : (a b : List Log) → AllOnce a → AllOnce b → AllOnce (a ++ b)
+AllOnce-append [] b p q = q
+AllOnce-append (log ∷ a) b p q = (p.0, AllOnce-append a b p.1 q)
+
+AllOnce-own : (b : Bool) → AllOnce (own_logs b)
+AllOnce-own true = (tt, tt)
+AllOnce-own false = tt
+
+pub LogsOnce-none : (es : List Event) → LogsOnce es es
+LogsOnce-none es = ([], tt, sym (append-nil es))
+
+pub LogsOnce-more : (es es1 es2 : List Event) (b : Bool) → LogsOnce es es1 → es2 ≡ es1 ++ events (own_logs b) → LogsOnce es es2
+LogsOnce-more es es1 es2 b l e = (
+  l.0 ++ own_logs b,
+  AllOnce-append l.0 (own_logs b) l.1 (AllOnce-own b),
+  e ∙ (ap (λ (x : List Event). x ++ events (own_logs b)) l.2 ∙ (append_assoc es (events l.0) (events (own_logs b)) ∙ ap (λ (x : List Event). es ++ x) (sym (events-append l.0 (own_logs b))))),
+)
+
+-- ---- lines answered so far
+
+-- Of the lines of all bytes some were answered, and those of the rest are still to be: what was appended and logged so far, with any replies and logs of later lines behind it, is what those lines and the later ones have.
+pub record Answered (all rest old new : List ℕ) (es es' : List Event) (s : State) : Type 0 where
+  pub done : List (List ℕ)
+  pub logs : List Log
+  pub text : List ℕ
+  pub last : Log
+  pub cut : lines all ≡ done ++ lines rest
+  pub goes_on : (later : List (List ℕ)) (logs' : List Log) (text' : List ℕ) → AreReplies the_setting (record { state = s; last = last }) later logs' text'
+      → AreReplies the_setting start (done ++ later) (logs ++ logs') (text ++ text')
+  pub appended : new ≡ old ++ text
+  pub logged : es' ≡ es ++ events logs
+
+pub Answered-start : (all old : List ℕ) (es : List Event) → Answered all all old old es es None
+Answered-start all old es = record {
+  done = [];
+  logs = [];
+  text = [];
+  last = [];
+  cut = refl;
+  goes_on = λ later logs' text' h. h;
+  appended = sym (append-nil old);
+  logged = sym (append-nil es);
+}
+
+AreLogsOf-own : (b : Bool) → AreLogsOf b (own_logs b)
+AreLogsOf-own true = refl
+AreLogsOf-own false = refl
+
+-- a line in front of later ones
+line-first : (from : Course) (line : List ℕ) (reply : List ℕ) (s' : State) → AnswersTo from.state (asked line) reply → s' ≡ left_by from.state (judged from.state (asked line))
+    → (later : List (List ℕ)) (logs' : List Log) (text' : List ℕ)
+    → AreReplies the_setting (record { state = s'; last = latest (answer from.state line) (own_logs (asks_edit (asked line))) from.last }) later logs' text'
+    → AreReplies the_setting from (line ∷ later) (own_logs (asks_edit (asked line)) ++ logs') (reply ++ text')
+unfolding AreReplies IsReply Moves answer next
+line-first from line reply s' told is later logs' text' h = (
+  record {
+    own = own_logs (asks_edit (asked line));
+    later = logs';
+    reply = reply;
+    others = text';
+    to = record { state = s'; last = latest (judged from.state (asked line)) (own_logs (asks_edit (asked line))) from.last };
+    logs_are = refl;
+    text_is = refl;
+    moved = (AreLogsOf-own (asks_edit (asked line)), λ j. record { state = is j; last = latest (judged from.state (asked line)) (own_logs (asks_edit (asked line))) from.last });
+    replied = told from.last;
+  },
+  h,
+)
+
+-- one more line was answered
+pub Answered-more : (all mid rest old new new' : List ℕ) (es es1 es2 : List Event) (s s' : State) (line reply : List ℕ)
+    → Answered all mid old new es es1 s → lines mid ≡ line ∷ lines rest → AnswersTo s (asked line) reply → s' ≡ left_by s (judged s (asked line))
+    → new' ≡ new ++ reply → es2 ≡ es1 ++ events (own_logs (asks_edit (asked line)))
+    → Answered all rest old new' es es2 s'
+Answered-more all mid rest old new new' es es1 es2 s s' line reply a first told is push log =
+    let own : List Log = own_logs (asks_edit (asked line)) in
+    record {
+      done = a.done ++ line ∷ [];
+      logs = a.logs ++ own;
+      text = a.text ++ reply;
+      last = latest (answer s line) own a.last;
+      cut = a.cut ∙ (ap (λ (ls : List (List ℕ)). a.done ++ ls) first ∙ sym (append_assoc a.done (line ∷ []) (lines rest)));
+      goes_on = λ later logs' text' h. rw (append_assoc a.done (line ∷ []) later, append_assoc a.logs own logs', append_assoc a.text reply text')
+          (a.goes_on (line ∷ later) (own ++ logs') (reply ++ text') (line-first (record { state = s; last = a.last }) line reply s' told is later logs' text' h));
+      appended = push ∙ (ap (λ (x : List ℕ). x ++ reply) a.appended ∙ append_assoc old a.text reply);
+      logged = log ∙ (ap (λ (x : List Event). x ++ events own) a.logged ∙ (append_assoc es (events a.logs) (events own) ∙ ap (λ (x : List Event). es ++ x) (sym (events-append a.logs own))));
+    }
+
+-- ---- streams
+
+FromTo-self : (a : Option (List ℕ)) (R : List ℕ → List ℕ → Type 0) → ((x : List ℕ) → R x x) → FromTo a a R
+FromTo-self None R f = tt
+FromTo-self (Some x) R f = f x
+
+-- the lines of what the source had and is no longer ahead were answered to the sink
+abbrev pub Told : Option (List ℕ) → Option (List ℕ) → Option (List ℕ) → Option (List ℕ) → List Event → List Event → State → Type 0
+Told left left' held held' es es' s = FromTo left left' (λ all rest. FromTo held held' (λ old new. Answered all rest old new es es' s))
+
+pub Told-start : (left held : Option (List ℕ)) (es : List Event) → Told left (ahead [] left) held held es es None
+Told-start None held es = tt
+Told-start (Some all) held es = FromTo-self held (λ old new. Answered all all old new es es None) (λ old. Answered-start all old es)
+
+pub Told-more : (left mid left' held held1 held2 : Option (List ℕ)) (es es1 es2 : List Event) (s s' : State) (a : Asked)
+    → Told left mid held held1 es es1 s
+    → FromTo mid left' (λ all rest. (line : List ℕ) × (lines all ≡ line ∷ lines rest) × (asked line ≡ a))
+    → s' ≡ left_by s (judged s a) → ((reply : List ℕ) × AnswersTo s a reply × Appends held1 held2 reply) → es2 ≡ es1 ++ events (own_logs (asks_edit a))
+    → Told left left' held held2 es es2 s'
+Told-more left mid left' held held1 held2 es es1 es2 s s' a told read is reply log =
+    FromTo-joins left mid left' (λ all rest. FromTo held held1 (λ old new. Answered all rest old new es es1 s))
+    (λ all rest. (line : List ℕ) × (lines all ≡ line ∷ lines rest) × (asked line ≡ a))
+    (λ all rest. FromTo held held2 (λ old new. Answered all rest old new es es2 s'))
+    (λ all middle rest answered first. FromTo-joins held held1 held2 (λ old new. Answered all middle old new es es1 s) (λ old new. new ≡ old ++ reply.0) (λ old new. Answered all rest old new es es2 s')
+    (λ old new new' so_far push. Answered-more all middle rest old new new' es es1 es2 s s' first.0 reply.0 so_far first.1
+    (subst (λ (b : Asked). AnswersTo s b reply.0) (sym first.2) reply.1) (rw first.2 is) push (rw first.2 log)) answered reply.2) told read
+
+AreReplies-none : (from : Course) → AreReplies the_setting from [] [] []
+unfolding AreReplies
+AreReplies-none from = (refl, refl)
+
+-- all lines were answered
+Answered-all : (all mid rest : List ℕ) (held held' : Option (List ℕ)) (es es' : List Event) (s : State) → FromTo held held' (λ old new. Answered all mid old new es es' s) → mid ≡ [] → rest ≡ []
+    → (rest ≡ []) × FromTo held held' (λ old new. (logs : List Log) × (text : List ℕ) × Replies the_setting (lines all) logs text × (new ≡ old ++ text) × (es' ≡ es ++ events logs))
+Answered-all all mid rest None None es es' s a e f = (f, tt)
+Answered-all all mid rest (Some old) (Some new) es es' s a e f =
+    let done : a.done ≡ lines all = sym (a.cut ∙ (ap (λ (bytes : List ℕ). a.done ++ lines bytes) e ∙ append-nil a.done)) in
+    let replies : AreReplies the_setting start a.done a.logs a.text =
+    rw (← append-nil a.done, ← append-nil a.logs, ← append-nil a.text) (a.goes_on [] [] [] (AreReplies-none (record { state = s; last = a.last }))) in
+    (f, (a.logs, a.text, subst (λ (ls : List (List ℕ)). AreReplies the_setting start ls a.logs a.text) done replies, a.appended, a.logged))
+Answered-all all mid rest None (Some new) es es' s a e f = absurd a
+Answered-all all mid rest (Some old) None es es' s a e f = absurd a
+
+pub Told-all : (left mid left' held held' : Option (List ℕ)) (es es' : List Event) (s : State)
+    → Told left mid held held' es es' s → FromTo mid left' (λ all rest. (all ≡ []) × (rest ≡ [])) → Served left left' held held' es es'
+Told-all left mid left' held held' es es' s told end =
+    FromTo-joins left mid left' (λ all rest. FromTo held held' (λ old new. Answered all rest old new es es' s)) (λ all rest. (all ≡ []) × (rest ≡ []))
+    (λ all rest. (rest ≡ []) × FromTo held held' (λ old new. (logs : List Log) × (text : List ℕ) × Replies the_setting (lines all) logs text × (new ≡ old ++ text) × (es' ≡ es ++ events logs)))
+    (λ all middle rest answered nothing_left. Answered-all all middle rest held held' es es' s answered nothing_left.0 nothing_left.1) told end
+
+-- ---- long lines
+
+too-long : (line : List ℕ) → max_line < length line → asked line ≡ broken line_too_long
+unfolding asked
+too-long line h = rw (lt-ltb max_line (length line) h) refl
+
+-- a line that is too long is asked nothing of
+pub asks-too_long : (ahead ahead' : Option (List ℕ)) (kept : List ℕ) (stopped : Option Line)
+    → FromTo ahead ahead' (Gives TooLong kept stopped) → FromTo ahead ahead' (λ all rest. (line : List ℕ) × (lines all ≡ line ∷ lines rest) × (asked line ≡ broken line_too_long))
+asks-too_long ahead ahead' kept stopped f =
+    FromTo-weaker ahead ahead' (Gives TooLong kept stopped) (λ all rest. (line : List ℕ) × (lines all ≡ line ∷ lines rest) × (asked line ≡ broken line_too_long))
+    (λ all rest g. (g.0, g.1.first, too-long g.0 g.2)) f
+
+-- a fact of a reader that has not stopped
+pub at-none : (o : Option Line) (P : Type 0) → o ≡ None → IfNone o P → P
+at-none None P e p = p
+at-none (Some x) P e p = absurd (cc)
+
+pub at-some : (o : Option Line) (x : Line) (P : Line → Type 0) → o ≡ Some x → IfSome o P → P x
+at-some None x P e p = absurd (cc)
+at-some (Some y) x P e p = let is : y ≡ x = cc in subst P is p
+
+-- a reader that stopped in reading a long line has nothing ahead
+pub NothingLeft-too_long : (ahead ahead' : Option (List ℕ)) (kept : List ℕ) (stopped : Option Line) → FromTo ahead ahead' (Gives TooLong kept stopped) → stopped ≡ Some End → NothingLeft ahead'
+NothingLeft-too_long None None kept stopped f e = tt
+NothingLeft-too_long (Some x) (Some y) kept None f e = absurd (cc)
+NothingLeft-too_long (Some x) (Some y) kept (Some s) f e = f.1.ends.3
+NothingLeft-too_long None (Some y) kept stopped f e = absurd f
+NothingLeft-too_long (Some x) None kept stopped f e = absurd f
+
+pub counts-too_long : (o : Option Line) (faults faults' : ℕ) → CountsFaults o TooLong faults faults' → faults' ≡ faults
+counts-too_long None faults faults' e = e
+counts-too_long (Some x) faults faults' e = e
+
+-- ---- bytes taken
+
+pub Grew-advances : (left left' : Option (List ℕ)) (t0 t1 t2 : ℕ) (old new : Reader) → Grew t0 old.taken t1 → Advances old new left left' t1 t2 → Grew t0 new.taken t2
+Grew-advances left left' t0 t1 t2 old new grew a =
+    let sum : old.taken + (new.taken - old.taken) ≡ new.taken = omega (arith, a.forward) in
+    Grew-joins t0 t1 t2 old.taken (new.taken - old.taken) new.taken sum grew a.grew
+
+pub TakesCount-advances : (left mid left' : Option (List ℕ)) (t1 t2 : ℕ) (old new : Reader) → TakesCount left mid old.taken → Advances old new mid left' t1 t2 → TakesCount left left' new.taken
+TakesCount-advances left mid left' t1 t2 old new took a =
+    let sum : old.taken + (new.taken - old.taken) ≡ new.taken = omega (arith, a.forward) in
+    TakesCount-joins left mid left' old.taken (new.taken - old.taken) new.taken sum took a.told
+
+-- what a run took before and takes now
+pub Taken-by : (P : ℕ → Type 0) (left mid left' : Option (List ℕ)) (t0 t1 t2 : ℕ) (old new : Reader) → P new.taken → Grew t0 old.taken t1 → TakesCount left mid old.taken
+    → Advances old new mid left' t1 t2 → (n : ℕ) × P n × Grew t0 n t2 × TakesCount left left' n
+Taken-by P left mid left' t0 t1 t2 old new p grew took a =
+    (new.taken, p, Grew-advances mid left' t0 t1 t2 old new grew a, TakesCount-advances left mid left' t1 t2 old new took a)

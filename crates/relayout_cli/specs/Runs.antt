@@ -1,0 +1,62 @@
+-- What a run answers and leaves.
+use Rattle.std.specs.Prelude.{◌≡◌, ℕ, ◌<◌, ◌≤◌, List, [], ◌∷◌, ◌++◌, Option}
+use Rattle.stream_model.specs.Streams.{FromTo, Rose, Grew, TakesCount}
+use Rattle.stream_model.specs.Lines.{lines}
+use Rattle.stream_model.specs.Ledger.{Event, Log, NoneTwice, events}
+use Rattle.page_model.specs.Pages.{State}
+use Rattle.request_model.specs.Requests.{Asked}
+use Rattle.request_model.specs.States.{judged}
+use Rattle.layout_model.specs.Setting.{Setting, default_advances}
+use Rattle.reply_model.specs.Replies.{Spells, Replies}
+use Rattle.port_core.specs.Reader.{max_taken}
+use Rattle.relayout_cli.specs.declared.status.Status.{Status}
+use Rattle.relayout_cli.specs.declared.status.Status.TheVariants.{Done, BadWords, ReadFault, WriteFault, NoMemory, InputSpent}
+
+-- characters as wide as the default says, and the first profile: there is no other yet
+abbrev pub the_setting : Setting
+the_setting = record { advances = default_advances; profile = 1 }
+
+-- this is the reply to what a line asks for in a state, whatever was logged before
+abbrev pub AnswersTo : State → Asked → List ℕ → Type 0
+AnswersTo s asked reply = (last : Log) → Spells the_setting (record { state = s; last = last }) (judged s asked) reply
+
+-- ---- whole runs
+
+-- all lines of the bytes that were left were answered, in their order, and no byte is left: what was appended is the replies to them, and the ledger has their logs
+abbrev pub Served : Option (List ℕ) → Option (List ℕ) → Option (List ℕ) → Option (List ℕ) → List Event → List Event → Type 0
+Served left left' held held' es es' =
+    FromTo left left' (λ all rest. (rest ≡ []) × FromTo held held' (λ old new.
+    (logs : List Log) × (text : List ℕ) × Replies the_setting (lines all) logs text × (new ≡ old ++ text) × (es' ≡ es ++ events logs)))
+
+-- no pair stands twice in one of these logs
+abbrev pub AllOnce : List Log → Type 0
+AllOnce [] = Unit {0}
+AllOnce (log ∷ logs) = NoneTwice log × AllOnce logs
+
+-- the ledger got a mark for each of some edits, and after it what that edit logged, no pair twice
+abbrev pub LogsOnce : List Event → List Event → Type 0
+LogsOnce es es' = (logs : List Log) × AllOnce logs × (es' ≡ es ++ events logs)
+
+-- ---- causes, by how a run ended
+
+-- the counts of faults of the source and of the sink before and after: a run that ends with a fault ends with the first, and nothing else failed
+abbrev pub FaultsBy : Status → ℕ → ℕ → ℕ → ℕ → Type 0
+FaultsBy Done source source' sink sink' = (source' ≡ source) × (sink' ≡ sink)
+FaultsBy BadWords source source' sink sink' = (source' ≡ source) × (sink' ≡ sink)
+FaultsBy ReadFault source source' sink sink' = (source ≤ source') × Rose source source' × (sink' ≡ sink)
+FaultsBy WriteFault source source' sink sink' = (source' ≡ source) × (sink ≤ sink') × Rose sink sink'
+FaultsBy NoMemory source source' sink sink' = (source' ≡ source) × (sink' ≡ sink)
+FaultsBy InputSpent source source' sink sink' = (source' ≡ source) × (sink' ≡ sink)
+
+-- how many bytes a run takes: all that it may exactly where the input was spent, unless the sink or memory failed then
+abbrev pub CountBy : Status → ℕ → Type 0
+CountBy Done n = n < max_taken
+CountBy BadWords n = n ≡ 0
+CountBy ReadFault n = n < max_taken
+CountBy WriteFault n = n ≤ max_taken
+CountBy NoMemory n = n ≤ max_taken
+CountBy InputSpent n = n ≡ max_taken
+
+-- a run took so many bytes, by the source's own number and by the bytes that it tells
+abbrev pub TakenBy : Status → Option (List ℕ) → Option (List ℕ) → ℕ → ℕ → Type 0
+TakenBy status left left' taken taken' = (n : ℕ) × CountBy status n × Grew taken n taken' × TakesCount left left' n

@@ -1,0 +1,105 @@
+ghost use Rattle.std.specs.Prelude.{◌≡◌, ◌≤◌, ◌++◌, pos, codes, [], Some, OnOk, string_bytes};
+ghost use Rattle.page_model.specs.Document.{AreDistinct, ids};
+ghost use Rattle.dom_arena.specs.Children.{child_ids};
+ghost use Rattle.std.specs.Fmt.{decimal, signed_decimal};
+ghost use Rattle.reply_model.specs.Spelling.{field};
+ghost use Rattle.reply_model.specs.DumpText.{box_line, box_lines, all_box_lines};
+ghost use Rattle.reply_model.specs.Replies.{IsDump};
+ghost use Rattle.relayout_cli.specs.Pages.{page_view};
+ghost use Rattle.relayout_cli.specs.Runs.{the_setting};
+ghost use Rattle.relayout_cli.specs.Walk.{node_at, nodes_at, Reaches, AllReach};
+ghost use Rattle.relayout_cli.specs.Flat.{frame_view, all_flat};
+
+use crate::boxes::Frame;
+use crate::limits::MAX_DEPTH;
+use crate::page::{Page, width_in_units};
+use crate::replies::{push_field, push_ok};
+use dom_arena::Doc;
+use itoa::Buffer;
+use port_core::{NoMemory, NodeId};
+use units64::Units;
+
+/// Appends the dump of a page.
+pub fn push_dump(page: &Page, reply: &mut String) -> Result<(), NoMemory>
+    requires { string_bytes reply.old ≡ [] }
+    ensures { OnOk result (IsDump the_setting (Some (page_view page.now)) (string_bytes reply.new)) }
+{
+    let width = width_in_units(page.viewport);
+    push_boxes(
+        reply,
+        &page.document,
+        page.document.root(),
+        width,
+        MAX_DEPTH,
+    )?;
+    push_ok(reply)
+}
+
+/// Appends the lines of an element's box and of the boxes below it, in document order. Each block fills the width that it has, and stands at the corner of the block around it.
+#[cycle(walk)]
+fn push_boxes(
+    reply: &mut String,
+    doc: &Doc,
+    id: NodeId,
+    width: Units,
+    levels: u32,
+) -> Result<(), NoMemory>
+    requires distinct { AreDistinct (ids doc.now.root) }
+    requires reach { Reaches levels id doc.now.root }
+    ensures { OnOk result (string_bytes reply.new ≡ string_bytes reply.old ++ box_lines (all_flat width) (pos 0) (pos 0) (node_at id doc.now.root)) }
+{
+    match doc.tag(id) {
+        Some(tag) => {
+            push_box(reply, id, tag, &Frame::flat(width))?;
+            push_children(reply, doc, id, width, levels - 1)
+        }
+        None => Ok(()),
+    }
+}
+
+#[cycle(walk)]
+fn push_children(
+    reply: &mut String,
+    doc: &Doc,
+    id: NodeId,
+    width: Units,
+    levels: u32,
+) -> Result<(), NoMemory>
+    requires distinct { AreDistinct (ids doc.now.root) }
+    requires reach { AllReach levels (child_ids id doc.now.root) doc.now.root }
+    ensures { OnOk result (string_bytes reply.new ≡ string_bytes reply.old ++ all_box_lines (all_flat width) (pos 0) (pos 0) (nodes_at (child_ids id doc.now.root) doc.now.root)) }
+{
+    for kid in doc.children(id) {
+        push_boxes(reply, doc, kid, width, levels)?;
+    }
+    Ok(())
+}
+
+/// Appends the line of a box that stands in one at the viewport's corner.
+#[tactic(auto, unfolding(reply_model::specs::DumpText::box_line))]
+fn push_box(reply: &mut String, id: NodeId, tag: &str, frame: &Frame) -> Result<(), NoMemory>
+    ensures { OnOk result (string_bytes reply.new ≡ string_bytes reply.old ++ box_line id tag.now frame.now.left frame.now.top (frame_view frame.now)) }
+{
+    push_head(reply, id, tag)?;
+    push_lengths(reply, frame.left, frame.top)?;
+    push_lengths(reply, frame.width, frame.height)?;
+    push_lengths(reply, frame.content_width, frame.content_height)?;
+    reply.push_str("\n")
+}
+
+/// Appends what a box's line begins with: which element it is of.
+fn push_head(reply: &mut String, id: NodeId, tag: &str) -> Result<(), NoMemory>
+    ensures { OnOk result (string_bytes reply.new ≡ string_bytes reply.old ++ (codes "box" ++ (field (decimal id) ++ field tag.now))) }
+{
+    reply.push_str("box")?;
+    push_field(reply, Buffer::new().format(id))?;
+    push_field(reply, tag)
+}
+
+/// Appends two fields that are lengths, in units.
+fn push_lengths(reply: &mut String, a: Units, b: Units) -> Result<(), NoMemory>
+    ensures { OnOk result (string_bytes reply.new ≡ string_bytes reply.old ++ (field (signed_decimal a) ++ field (signed_decimal b))) }
+{
+    push_field(reply, Buffer::new().format(a.get()))?;
+    push_field(reply, Buffer::new().format(b.get()))
+}

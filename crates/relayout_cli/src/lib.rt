@@ -1,0 +1,16 @@
+//! The program `relayout`: scripts of requests in, replies out.
+#![tactic(auto)]
+
+mod boxes;
+mod dump;
+mod limits;
+mod page;
+mod replies;
+mod respond;
+mod running;
+mod serving;
+mod status;
+
+pub use running::run;
+pub use serving::serve;
+pub use status::Status;

@@ -1,0 +1,35 @@
+-- What the program's own types stand for in the definitions.
+use Rattle.request_model.specs.Refusals as model
+use Rattle.request_model.specs.Requests as model_of
+use Rattle.dom_arena.specs.Shape.{shape}
+use Rattle.relayout_requests.specs.declared.refusal.Refusal.{Refusal}
+use Rattle.relayout_requests.specs.declared.refusal.Refusal.TheVariants.{BadJson, BadRequest, LineTooLong, NotLoaded, NotBuilt}
+use Rattle.relayout_requests.specs.declared.request.Request.{Request}
+use Rattle.relayout_requests.specs.declared.request.Request.TheVariants.{Edit as EditRequest, Dump}
+use Rattle.relayout_requests.specs.declared.request.Load.{Load}
+use Rattle.relayout_requests.specs.declared.request.Edit.{Edit}
+use Rattle.relayout_requests.specs.declared.request.Edit.TheVariants.{Load as LoadEdit}
+use Rattle.relayout_requests.specs.declared.request.Asked.{Asked}
+use Rattle.relayout_requests.specs.declared.request.Asked.TheVariants.{Nothing, Broken, Request as AskedRequest}
+
+abbrev pub refusal_view : Refusal → model.Refusal
+refusal_view BadJson = model.bad_json
+refusal_view BadRequest = model.bad_request
+refusal_view LineTooLong = model.line_too_long
+refusal_view NotLoaded = model.not_loaded
+refusal_view NotBuilt = model.not_built
+
+abbrev pub load_view : Load → model_of.Edit
+load_view l = model_of.load l.width l.height (shape l.doc) l.sheets
+
+abbrev pub edit_view : Edit → model_of.Edit
+edit_view (LoadEdit l) = load_view l
+
+abbrev pub request_view : Request → model_of.Request
+request_view (EditRequest e) = model_of.edit (edit_view e)
+request_view Dump = model_of.dump
+
+abbrev pub asked_view : Asked → model_of.Asked
+asked_view Nothing = model_of.nothing
+asked_view (Broken r) = model_of.broken (refusal_view r)
+asked_view (AskedRequest q) = model_of.request (request_view q)

@@ -1,0 +1,12 @@
+//! Requests: what a line of a script asks for.
+#![tactic(auto)]
+
+mod grammar;
+mod line;
+mod members;
+mod refusal;
+mod request;
+
+pub use line::ask;
+pub use refusal::Refusal;
+pub use request::{Asked, Edit, Load, Request};
