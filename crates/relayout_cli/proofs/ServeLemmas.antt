@@ -1,5 +1,5 @@
 -- How a script is answered line by line.
-use Rattle.std.proofs.Common.{◌≡◌, ◌∙◌, sym, ap, refl, subst, ℕ, ◌<◌, ◌+◌, ◌-◌, List, [], ◌∷◌, ◌++◌, length, Bool, true, false, Option, Some, None, IfNone, IfSome, append_assoc, append-nil, arith}
+use Rattle.std.proofs.Common.{length-append, inl, inr, ◌≡◌, ◌∙◌, sym, ap, refl, subst, ℕ, ◌<◌, ◌+◌, ◌-◌, List, [], ◌∷◌, ◌++◌, length, Bool, true, false, Option, Some, None, IfNone, IfSome, append_assoc, append-nil, arith}
 use Rattle.std.proofs.lemmas.Bool.{lt-ltb}
 use Rattle.stream_model.specs.Streams.{FromTo, Appends, Grew, TakesCount, NothingLeft}
 use Rattle.stream_model.specs.Lines.{lines, max_line}
@@ -13,7 +13,9 @@ use Rattle.port_core.specs.Reader.{Reader, ahead, Gives, CountsFaults}
 use Rattle.port_core.specs.declared.reader.Line.{Line}
 use Rattle.port_core.specs.declared.reader.Line.TheVariants.{TooLong, End}
 use Rattle.port_core.proofs.StreamLemmas.{FromTo-joins, FromTo-weaker, Grew-joins, TakesCount-joins}
-use Rattle.relayout_cli.specs.Runs.{the_setting, AnswersTo, Served, LogsOnce, AllOnce}
+use Rattle.relayout_cli.specs.Runs.{the_setting, AnswersTo, Served, LogsOnce, AllOnce, FaultsBy, TakenBy, IsUntroubled, HasFewer, IsDoneButForMemory}
+use Rattle.relayout_cli.specs.declared.status.Status.{Status}
+use Rattle.relayout_cli.specs.declared.status.Status.TheVariants.{Done, BadWords, ReadFault, WriteFault, NoMemory, InputSpent}
 use Rattle.relayout_cli.specs.Coming.{Advances}
 use Rattle.relayout_cli.specs.Turns.{own_logs}
 
@@ -212,3 +214,16 @@ pub Taken-by : (P : ℕ → Type 0) (left mid left' : Option (List ℕ)) (t0 t1 
     → Advances old new mid left' t1 t2 → (n : ℕ) × P n × Grew t0 n t2 × TakesCount left left' n
 Taken-by P left mid left' t0 t1 t2 old new p grew took a =
     (new.taken, p, Grew-advances mid left' t0 t1 t2 old new grew a, TakesCount-advances left mid left' t1 t2 old new took a)
+
+-- ---- completeness
+
+pub complete-by : (status : Status) (f f' g g' : ℕ) (left left' : Option (List ℕ)) (t t' : ℕ) → FaultsBy status f f' g g' → TakenBy status left left' t t' → (status ≡ BadWords → ⊥)
+    → IsUntroubled f f' g g' → HasFewer left t t' → IsDoneButForMemory status
+complete-by Done f f' g g' left left' t t' faults taken words calm few = inl refl
+complete-by NoMemory f f' g g' left left' t t' faults taken words calm few = inr refl
+complete-by BadWords f f' g g' left left' t t' faults taken words calm few = absurd (words refl)
+complete-by ReadFault f f' g g' left left' t t' faults taken words calm few = absurd (omega arith)
+complete-by WriteFault f f' g g' left left' t t' faults taken words calm few = absurd (omega arith)
+complete-by InputSpent f f' g g' None left' t t' faults taken words calm few = absurd (omega arith)
+complete-by InputSpent f f' g g' (Some x) (Some y) t t' faults taken words calm few = absurd (omega (arith, taken.1, taken.3.2, ap length taken.3.1, length-append taken.3.0 y))
+complete-by InputSpent f f' g g' (Some x) None t t' faults taken words calm few = absurd taken.3

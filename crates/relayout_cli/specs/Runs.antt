@@ -1,6 +1,6 @@
 -- What a run answers and leaves.
-use Rattle.std.specs.Prelude.{◌≡◌, ℕ, ◌<◌, ◌≤◌, List, [], ◌∷◌, ◌++◌, Option}
-use Rattle.stream_model.specs.Streams.{FromTo, Rose, Grew, TakesCount}
+use Rattle.std.specs.Prelude.{◌⊎◌, ◌^◌, ◌+◌, length, Some, None, ◌≡◌, ℕ, ◌<◌, ◌≤◌, List, [], ◌∷◌, ◌++◌, Option}
+use Rattle.stream_model.specs.Streams.{FromTo, last_count, Rose, Grew, TakesCount}
 use Rattle.stream_model.specs.Lines.{lines}
 use Rattle.stream_model.specs.Ledger.{Event, Log, NoneTwice, events}
 use Rattle.page_model.specs.Pages.{State}
@@ -60,3 +60,18 @@ CountBy InputSpent n = n ≡ max_taken
 -- a run took so many bytes, by the source's own number and by the bytes that it tells
 abbrev pub TakenBy : Status → Option (List ℕ) → Option (List ℕ) → ℕ → ℕ → Type 0
 TakenBy status left left' taken taken' = (n : ℕ) × CountBy status n × Grew taken n taken' × TakesCount left left' n
+
+-- ---- completeness
+
+-- neither the source nor the sink failed: their counts are as before, and could have risen
+abbrev pub IsUntroubled : ℕ → ℕ → ℕ → ℕ → Type 0
+IsUntroubled source source' sink sink' = (source' ≡ source) × (source < last_count) × (sink' ≡ sink) × (sink < last_count)
+
+-- the source has fewer bytes than a run takes; one that does not tell them gave fewer in this run
+abbrev pub HasFewer : Option (List ℕ) → ℕ → ℕ → Type 0
+HasFewer None taken taken' = (taken < 2 ^ 63) × (taken' < taken + max_taken)
+HasFewer (Some bytes) taken taken' = length bytes < max_taken
+
+-- the run came to its end, or memory did
+abbrev pub IsDoneButForMemory : Status → Type 0
+IsDoneButForMemory status = (status ≡ Done) ⊎ (status ≡ NoMemory)

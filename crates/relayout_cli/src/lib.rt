@@ -11,6 +11,9 @@ mod running;
 mod serving;
 mod status;
 
+#[cfg(test)]
+mod tests;
+
 pub use running::run;
 pub use serving::serve;
 pub use status::Status;

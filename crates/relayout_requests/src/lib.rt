@@ -6,6 +6,8 @@ mod line;
 mod members;
 mod refusal;
 mod request;
+#[cfg(test)]
+mod tests;
 
 pub use line::ask;
 pub use refusal::Refusal;

@@ -5,7 +5,7 @@ use Rattle.relayout_cli.specs.Pages.{state_view}
 use Rattle.relayout_cli.specs.Runs.{LogsOnce}
 use Rattle.relayout_cli.specs.Coming.{IsAtEnd}
 use Rattle.relayout_cli.proofs.ServeLemmas.{Told}
-use Rattle.relayout_cli.proofs.serving.serve.Given as goal
+use Rattle.relayout_cli.proofs.serving.serve_lines.Given as goal
 
 -- the lines so far were answered, and nothing failed
 abbrev pub invariant-script : goal.invariant-script

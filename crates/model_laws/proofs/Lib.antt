@@ -1,0 +1,4 @@
+pub mod CutLemmas
+pub mod CountLemmas
+pub mod BoxLemmas
+pub mod ReplyLemmas

@@ -1,0 +1,12 @@
+//! Laws of the definitions, in the words of their subjects: each is the contract of a function that does nothing.
+#![tactic(auto)]
+
+mod boxes;
+mod documents;
+mod lines;
+mod replies;
+
+pub use boxes::{one_assignment, some_assignment};
+pub use documents::numbers_count_up;
+pub use lines::{lines_are_cut_at_newlines, one_way_to_cut};
+pub use replies::one_text;

@@ -1,0 +1,233 @@
+//! Whole scripts, with the replies that they must have.
+use crate::{Status, run};
+use port_core::{MemSink, MemSource, NoMemory, StdSink, StdSource, Steps};
+use std::alloc::Global;
+use std::process::Abort;
+use std::test::Fail;
+
+const LOAD_ONE: &[u8] = b"{\"do\":\"load\",\"width\":800,\"height\":600,\"doc\":[\"div\"]}\n";
+const DUMP: &[u8] = b"{\"do\":\"dump\"}";
+const ONE_BOX: &[u8] = b"ok 0 1\nbox 0 div 0 0 51200 0 51200 0\nok\n";
+
+/// The words of a command line.
+fn words(alloc: Global, extra: bool) -> Result<Vec<String>, NoMemory> {
+    let mut words = Vec::new(alloc);
+    words.push(String::from_str(alloc, "relayout")?)?;
+    if extra {
+        words.push(String::from_str(alloc, "--help")?)?;
+    }
+    Ok(words)
+}
+
+/// A script over a source and a sink in memory: how it ends, and what it writes.
+#[derive(Drop)]
+struct Case<'a> {
+    script: &'a [u8],
+    piece: usize,
+    fail_at: Option<u64>,
+    room: usize,
+    status: Status,
+    replies: &'a [u8],
+}
+
+/// Runs a script, and compares.
+fn expect(rt: &impl Abort, alloc: Global, case: &Case) -> Result<(), NoMemory> {
+    let words = words(alloc, false)?;
+    let piece = case.piece.max(1);
+    let mut source = MemSource::new(alloc, case.script, piece, case.fail_at)?;
+    let mut sink = MemSink::new(alloc, case.room)?;
+    let mut steps = Steps::new(());
+    let status = run(alloc, words.as_slice(), &mut source, &mut sink, &mut steps);
+    assert_eq!(rt; status, case.status);
+    assert_eq!(rt; sink.bytes(), case.replies);
+    Ok(())
+}
+
+/// A script that is served to its end.
+fn expect_replies(
+    rt: &impl Abort,
+    alloc: Global,
+    script: &[u8],
+    replies: &[u8],
+) -> Result<(), NoMemory> {
+    let case = Case {
+        script,
+        piece: 4096,
+        fail_at: None,
+        room: 1_000_000,
+        status: Status::Done,
+        replies,
+    };
+    expect(rt, alloc, &case)
+}
+
+/// The script of one box, with or without the last newline.
+fn one_box(alloc: Global, newline: bool) -> Result<Vec<u8>, NoMemory> {
+    let mut script = Vec::from_slice(alloc, LOAD_ONE)?;
+    script.extend_from_slice(DUMP)?;
+    if newline {
+        script.push(b'\n')?;
+    }
+    Ok(script)
+}
+
+/// The script of one box in pieces of this size.
+fn expect_one_box(rt: &impl Abort, alloc: Global, piece: usize) -> Result<(), NoMemory> {
+    for newline in [true, false] {
+        let script = one_box(alloc, newline)?;
+        let case = Case {
+            script: script.as_slice(),
+            piece,
+            fail_at: None,
+            room: 1000,
+            status: Status::Done,
+            replies: ONE_BOX,
+        };
+        expect(rt, alloc, &case)?;
+    }
+    Ok(())
+}
+
+#[test]
+fn pieces_make_no_difference(rt: HostRuntime) -> Result<(), Fail> {
+    for piece in [1, 2, 3, 7, 1000] {
+        expect_one_box(&rt, rt.alloc(), piece)?;
+    }
+    Ok(())
+}
+
+/// The script of one box with this fault.
+fn expect_fault(
+    rt: &impl Abort,
+    alloc: Global,
+    fail_at: Option<u64>,
+    room: usize,
+    status: Status,
+    replies: &[u8],
+) -> Result<(), NoMemory> {
+    let script = one_box(alloc, true)?;
+    let case = Case {
+        script: script.as_slice(),
+        piece: 9,
+        fail_at,
+        room,
+        status,
+        replies,
+    };
+    expect(rt, alloc, &case)
+}
+
+#[test]
+fn faults_end_a_run_with_their_status(rt: HostRuntime) -> Result<(), Fail> {
+    let inside = LOAD_ONE.len() as u64 + 5;
+    let last = LOAD_ONE.len() as u64 + DUMP.len() as u64 + 1;
+    expect_fault(&rt, rt.alloc(), None, 10, Status::WriteFault, b"ok 0 1\nbox")?;
+    expect_fault(&rt, rt.alloc(), Some(inside), 1000, Status::ReadFault, b"ok 0 1\n")?;
+    expect_fault(&rt, rt.alloc(), Some(last), 1000, Status::ReadFault, ONE_BOX)?;
+    Ok(())
+}
+
+#[test]
+fn whole_documents_are_dumped(rt: HostRuntime) -> Result<(), Fail> {
+    expect_replies(
+        &rt,
+        rt.alloc(),
+        b"{\"do\":\"load\",\"width\":10,\"height\":20,\"doc\":[\"div\",[\"div\"],[\"div\",{}]]}\n{\"do\":\"dump\"}\n",
+        b"ok 0 3\nbox 0 div 0 0 640 0 640 0\nbox 1 div 0 0 640 0 640 0\nbox 2 div 0 0 640 0 640 0\nok\n",
+    )?;
+    expect_replies(&rt, rt.alloc(), b"", b"")?;
+    expect_replies(&rt, rt.alloc(), b"   \n\t\r\n", b"")?;
+    Ok(())
+}
+
+/// A line by itself, and the reply to it.
+fn expect_reply(rt: &impl Abort, alloc: Global, line: &[u8], reply: &[u8]) -> Result<(), NoMemory> {
+    expect_replies(rt, alloc, line, reply)
+}
+
+#[test]
+fn refusals_name_their_cause(rt: HostRuntime) -> Result<(), Fail> {
+    let table: [(&[u8], &[u8]); 12] = [
+        (b"{\"do\":\"dump\"}", b"error 4 not-loaded\n"),
+        (b"{", b"error 1 bad-json\n"),
+        (b"{\"do\":\"dump\"} x", b"error 1 bad-json\n"),
+        (b"{\"do\":\"\xff\"}", b"error 1 bad-json\n"),
+        (b"{\"do\":\"dump\",\"a\":\"\\ud800\"}", b"error 1 bad-json\n"),
+        (b"{\"do\":\"fly\"}", b"error 2 bad-request\n"),
+        (b"{\"do\":\"dump\",\"at\":1}", b"error 2 bad-request\n"),
+        (b"{\"do\":\"insert\"}", b"error 21 not-built\n"),
+        (b"{\"do\":\"load\",\"width\":10,\"height\":20,\"doc\":[\"p\"]}", b"error 21 not-built\n"),
+        (b"{\"do\":\"load\",\"width\":10001,\"height\":20,\"doc\":[\"div\"]}", b"error 21 not-built\n"),
+        (b"{\"do\":\"load\",\"width\":1,\"height\":1,\"doc\":[\"div\",\"text\"]}", b"error 21 not-built\n"),
+        (b"{\"do\":\"load\",\"width\":1,\"height\":1,\"doc\":\"div\"}", b"error 2 bad-request\n"),
+    ];
+    for (line, reply) in table {
+        expect_reply(&rt, rt.alloc(), line, reply)?;
+    }
+    Ok(())
+}
+
+/// A load of one `div` at this width, and the reply to it.
+fn expect_width(rt: &impl Abort, alloc: Global, width: &[u8], reply: &[u8]) -> Result<(), NoMemory> {
+    let mut line = Vec::from_slice(alloc, b"{\"do\":\"load\",\"width\":")?;
+    line.extend_from_slice(width)?;
+    line.extend_from_slice(b",\"height\":1,\"doc\":[\"div\"]}")?;
+    expect_reply(rt, alloc, line.as_slice(), reply)
+}
+
+#[test]
+fn numbers_are_written_in_digits_alone(rt: HostRuntime) -> Result<(), Fail> {
+    let table: [(&[u8], &[u8]); 8] = [
+        (b"0", b"ok 0 1\n"),
+        (b"10000", b"ok 0 1\n"),
+        (b"-0", b"error 2 bad-request\n"),
+        (b"1.0", b"error 2 bad-request\n"),
+        (b"1e0", b"error 2 bad-request\n"),
+        (b"18446744073709551615", b"error 21 not-built\n"),
+        (b"18446744073709551616", b"error 2 bad-request\n"),
+        (b"1e400", b"error 1 bad-json\n"),
+    ];
+    for (width, reply) in table {
+        expect_width(&rt, rt.alloc(), width, reply)?;
+    }
+    Ok(())
+}
+
+/// The line `front`, `part` so many times, `back`.
+fn repeated(
+    alloc: Global,
+    front: &[u8],
+    part: &[u8],
+    times: usize,
+    back: &[u8],
+) -> Result<Vec<u8>, NoMemory> {
+    let mut line = Vec::from_slice(alloc, front)?;
+    for _ in 0..times {
+        line.extend_from_slice(part)?;
+    }
+    line.extend_from_slice(back)?;
+    Ok(line)
+}
+
+#[test]
+fn limits_are_exact(rt: HostRuntime) -> Result<(), Fail> {
+    let front = b"{\"do\":\"load\",\"width\":1,\"height\":1,\"doc\":[\"div\"";
+    let wide = repeated(rt.alloc(), front, b",[\"div\"]", 19_999, b"]}")?;
+    expect_reply(&rt, rt.alloc(), wide.as_slice(), b"ok 0 20000\n")?;
+    let wider = repeated(rt.alloc(), front, b",[\"div\"]", 20_000, b"]}")?;
+    expect_reply(&rt, rt.alloc(), wider.as_slice(), b"error 21 not-built\n")?;
+    let long = repeated(rt.alloc(), b"", b"x", 4_194_305, b"\n{")?;
+    expect_reply(&rt, rt.alloc(), long.as_slice(), b"error 3 line-too-long\nerror 1 bad-json\n")?;
+    Ok(())
+}
+
+#[test]
+fn other_words_are_told_the_usage(rt: HostRuntime) -> Result<(), Fail> {
+    let words = words(rt.alloc(), true)?;
+    let mut source = StdSource::new(LOAD_ONE);
+    let mut sink = StdSink::new(Vec::new(rt.alloc()));
+    let mut steps = Steps::new(());
+    let status = run(rt.alloc(), words.as_slice(), &mut source, &mut sink, &mut steps);
+    assert_eq!(rt; status.number(), 2);
+    Ok(())
+}

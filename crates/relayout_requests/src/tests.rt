@@ -1,0 +1,64 @@
+//! What lines ask for: each kind of answer once.
+use crate::{Asked, Edit, Load, Refusal, Request, ask};
+use port_core::NoMemory;
+use std::alloc::Global;
+use std::process::Abort;
+use std::test::Fail;
+
+/// A line that is refused.
+fn expect_broken(
+    rt: &impl Abort,
+    alloc: Global,
+    line: &[u8],
+    refusal: Refusal,
+) -> Result<(), NoMemory> {
+    assert!(rt; line.len() < 1000);
+    let asked = ask(alloc, line)?;
+    assert!(rt; matches!(&asked, Asked::Broken(given) if *given == refusal));
+    Ok(())
+}
+
+#[test]
+fn lines_ask(rt: HostRuntime) -> Result<(), Fail> {
+    let blank = ask(rt.alloc(), b" \t\r")?;
+    assert!(rt; matches!(&blank, Asked::Nothing));
+    let dump = ask(rt.alloc(), b" { \"d\\u006f\" : \"dump\" } ")?;
+    assert!(rt; matches!(&dump, Asked::Request(Request::Dump)));
+    let line =
+        b"{\"do\":\"load\",\"height\":3,\"width\":2,\"doc\":[\"a\"],\"sheets\":[\"p{}\",\"\"]}";
+    let load = ask(rt.alloc(), line)?;
+    let Asked::Request(
+        Request::Edit(
+            Edit::Load(
+                Load {
+                    width,
+                    height,
+                    sheets,
+                    ..
+                },
+            ),
+        ),
+    ) = &load
+    else {
+        return Err(Fail::from(NoMemory));
+    };
+    assert_eq!(rt; *width, 2);
+    assert_eq!(rt; *height, 3);
+    assert!(rt; matches!(sheets, Some(texts) if texts.len() == 2));
+    Ok(())
+}
+
+#[test]
+fn refusals_have_numbers_and_names(rt: HostRuntime) -> Result<(), Fail> {
+    expect_broken(&rt, rt.alloc(), b"{", Refusal::BadJson)?;
+    expect_broken(&rt, rt.alloc(), b"{\"do\":\"fly\"}", Refusal::BadRequest)?;
+    expect_broken(
+        &rt,
+        rt.alloc(),
+        b"{\"do\":\"counts\",\"x\":1}",
+        Refusal::NotBuilt,
+    )?;
+    assert_eq!(rt; Refusal::LineTooLong.number(), 3);
+    assert_eq!(rt; Refusal::NotLoaded.name(), "not-loaded");
+    Ok(())
+}
