@@ -90,11 +90,6 @@ abbrev mutual
   find_in i no_nodes = None
   find_in i (node n ns) = or_else (find i n) (find_in i ns)
 
--- each of these nodes is the one found under its number
-abbrev pub AreFound : Nodes → Node → Type 0
-AreFound no_nodes root = Unit {0}
-AreFound (node n ns) root = (find (id_of n) root ≡ Some n) × AreFound ns root
-
 abbrev pub is_among : ℕ → List ℕ → Bool
 is_among x [] = false
 is_among x (y ∷ ys) = (x == y) || is_among x ys

@@ -1,9 +1,8 @@
 -- The flat boxes are consistent, and their lines are the dump.
-use Rattle.std.proofs.Common.{◌≡◌, ◌∙◌, ap, refl, ℕ, List, [], ◌++◌, Some, Result, Ok, Err, OnOk}
+use Rattle.std.proofs.Common.{eq-eqb, ◌≡◌, ◌∙◌, ap, refl, ℕ, List, [], ◌++◌, Some, Result, Ok, Err, OnOk}
 use Rattle.std.specs.Prelude.{ℤ, pos}
-use Rattle.page_model.specs.Document.{Node, element, text, Nodes, no_nodes, node, id_of}
+use Rattle.page_model.specs.Document.{Node, element, text, Nodes, no_nodes, node, id_of, find}
 use Rattle.page_model.specs.Pages.{Page}
-use Rattle.page_model.proofs.FindLemmas.{find-root}
 use Rattle.layout_model.specs.Boxes.{units_of_pixels}
 use Rattle.layout_model.specs.Consistent.{Holds, AllHold}
 use Rattle.reply_model.specs.DumpText.{box_lines}
@@ -22,6 +21,11 @@ mutual
   all-hold-flat : (width : ℤ) (ns : Nodes) → AllHold (all_flat width) width ns
   all-hold-flat width no_nodes = tt
   all-hold-flat width (node n ns) = (holds-flat width n, all-hold-flat width ns)
+
+-- the root is found under its number
+pub find-root : (root : Node) → find (id_of root) root ≡ Some root
+find-root (element id name attributes kids) = rw (eq-eqb id id refl) refl
+find-root (text id cs) = rw (eq-eqb id id refl) refl
 
 -- the boxes' lines and then the ok line were appended to nothing
 pub OnOk-dump : {E : Type 0} (r : Result (Unit {0}) E) (new mid old : List ℕ) (page : Page) (width : ℤ) (i : ℕ)

@@ -1,7 +1,8 @@
 -- How a script is answered line by line.
-use Rattle.std.proofs.Common.{length-append, inl, inr, ◌≡◌, ◌∙◌, sym, ap, refl, subst, ℕ, ◌<◌, ◌+◌, ◌-◌, List, [], ◌∷◌, ◌++◌, length, Bool, true, false, Option, Some, None, IfNone, IfSome, append_assoc, append-nil, arith}
+use Rattle.std.proofs.Common.{◌≤◌, take, length-append, inl, inr, ◌≡◌, ◌∙◌, sym, ap, refl, subst, ℕ, ◌<◌, ◌+◌, ◌-◌, List, [], ◌∷◌, ◌++◌, length, Bool, true, false, Option, Some, None, IfNone, IfSome, append_assoc, append-nil, arith}
+use Rattle.std.proofs.Math.Seq.{take-append-add}
 use Rattle.std.proofs.lemmas.Bool.{lt-ltb}
-use Rattle.stream_model.specs.Streams.{FromTo, Appends, Grew, TakesCount, NothingLeft}
+use Rattle.stream_model.specs.Streams.{FromTo, Appends, AppendsPart, Grew, TakesCount, NothingLeft}
 use Rattle.stream_model.specs.Lines.{lines, max_line}
 use Rattle.stream_model.specs.Ledger.{Event, Log, pairs, events, mark}
 use Rattle.page_model.specs.Pages.{State}
@@ -13,7 +14,7 @@ use Rattle.port_core.specs.Reader.{Reader, ahead, Gives, CountsFaults}
 use Rattle.port_core.specs.declared.reader.Line.{Line}
 use Rattle.port_core.specs.declared.reader.Line.TheVariants.{TooLong, End}
 use Rattle.port_core.proofs.StreamLemmas.{FromTo-joins, FromTo-weaker, Grew-joins, TakesCount-joins}
-use Rattle.relayout_cli.specs.Runs.{the_setting, AnswersTo, Served, LogsOnce, AllOnce, FaultsBy, TakenBy, IsUntroubled, HasFewer, IsDoneButForMemory}
+use Rattle.relayout_cli.specs.Runs.{the_setting, AnswersTo, Served, IsWritten, BeginsReplies, Wrote, LogsOnce, AllOnce, FaultsBy, TakenBy, IsUntroubled, HasFewer, IsDoneButForMemory}
 use Rattle.relayout_cli.specs.declared.status.Status.{Status}
 use Rattle.relayout_cli.specs.declared.status.Status.TheVariants.{Done, BadWords, ReadFault, WriteFault, NoMemory, InputSpent}
 use Rattle.relayout_cli.specs.Coming.{Advances}
@@ -227,3 +228,60 @@ complete-by WriteFault f f' g g' left left' t t' faults taken words calm few = a
 complete-by InputSpent f f' g g' None left' t t' faults taken words calm few = absurd (omega arith)
 complete-by InputSpent f f' g g' (Some x) (Some y) t t' faults taken words calm few = absurd (omega (arith, taken.1, taken.3.2, ap length taken.3.1, length-append taken.3.0 y))
 complete-by InputSpent f f' g g' (Some x) None t t' faults taken words calm few = absurd taken.3
+
+-- ---- what was written however a run ends
+
+replies-done : (all rest old new : List ℕ) (es es' : List Event) (s : State) (a : Answered all rest old new es es' s) → AreReplies the_setting start a.done a.logs a.text
+replies-done all rest old new es es' s a =
+    rw (← append-nil a.done, ← append-nil a.logs, ← append-nil a.text) (a.goes_on [] [] [] (AreReplies-none (record { state = s; last = a.last })))
+
+BeginsReplies-answered : (status : Status) (all rest old new : List ℕ) (es es' : List Event) (s : State) → ((text : List ℕ) → IsWritten status text text) → Answered all rest old new es es' s → BeginsReplies status all old new
+BeginsReplies-answered status all rest old new es es' s whole a = record {
+  first = a.done;
+  others = lines rest;
+  logs = a.logs;
+  text = a.text;
+  written = a.text;
+  cut = a.cut;
+  replies = replies-done all rest old new es es' s a;
+  appended = a.appended;
+  part = whole a.text;
+}
+
+-- whole replies were written
+pub Wrote-told : (status : Status) (left mid held held' : Option (List ℕ)) (es es' : List Event) (s : State) → ((text : List ℕ) → IsWritten status text text)
+    → Told left mid held held' es es' s → Wrote status left held held'
+Wrote-told status None mid held held' es es' s whole told = tt
+Wrote-told status (Some all) None held held' es es' s whole told = absurd told
+Wrote-told status (Some all) (Some rest) held held' es es' s whole told =
+    FromTo-weaker held held' (λ old new. Answered all rest old new es es' s) (BeginsReplies status all) (λ old new a. BeginsReplies-answered status all rest old new es es' s whole a) told
+
+BeginsReplies-cut : (all mid rest old new new' : List ℕ) (es es1 : List Event) (s : State) (line reply : List ℕ) (k : ℕ)
+    → Answered all mid old new es es1 s → lines mid ≡ line ∷ lines rest → AnswersTo s (asked line) reply → k ≤ length reply → new' ≡ new ++ take k reply → BeginsReplies WriteFault all old new'
+BeginsReplies-cut all mid rest old new new' es es1 s line reply k a first told within push =
+    let own : List Log = own_logs (asks_edit (asked line)) in
+    let s' : State = left_by s (judged s (asked line)) in
+    record {
+      first = a.done ++ line ∷ [];
+      others = lines rest;
+      logs = a.logs ++ (own ++ []);
+      text = a.text ++ (reply ++ []);
+      written = a.text ++ take k reply;
+      cut = a.cut ∙ (ap (λ (ls : List (List ℕ)). a.done ++ ls) first ∙ sym (append_assoc a.done (line ∷ []) (lines rest)));
+      replies = a.goes_on (line ∷ []) (own ++ []) (reply ++ [])
+          (line-first (record { state = s; last = a.last }) line reply s' told refl [] [] [] (AreReplies-none (record { state = s'; last = latest (answer s line) own a.last })));
+      appended = push ∙ (ap (λ (x : List ℕ). x ++ take k reply) a.appended ∙ append_assoc old a.text (take k reply));
+      part = (length a.text + k, rw append-nil (omega (arith, length-append a.text reply)), rw append-nil (sym (take-append-add a.text reply k)));
+    }
+
+-- a prefix of the last reply was written
+pub Wrote-cut : (left mid left' held held1 held2 : Option (List ℕ)) (es es1 : List Event) (s : State) (a : Asked)
+    → Told left mid held held1 es es1 s
+    → FromTo mid left' (λ all rest. (line : List ℕ) × (lines all ≡ line ∷ lines rest) × (asked line ≡ a))
+    → ((reply : List ℕ) × AnswersTo s a reply × AppendsPart held1 held2 reply) → Wrote WriteFault left held held2
+Wrote-cut None mid left' held held1 held2 es es1 s a told read reply = tt
+Wrote-cut (Some all) None left' held held1 held2 es es1 s a told read reply = absurd told
+Wrote-cut (Some all) (Some x) None held held1 held2 es es1 s a told read reply = absurd read
+Wrote-cut (Some all) (Some x) (Some y) held held1 held2 es es1 s a told read reply =
+    FromTo-joins held held1 held2 (λ old new. Answered all x old new es es1 s) (λ old new. (k : ℕ) × (k ≤ length reply.0) × (new ≡ old ++ take k reply.0)) (BeginsReplies WriteFault all)
+    (λ old new new' so_far push. BeginsReplies-cut all x y old new new' es es1 s read.0 reply.0 push.0 so_far read.1 (subst (λ (b : Asked). AnswersTo s b reply.0) (sym read.2) reply.1) push.1 push.2) told reply.2

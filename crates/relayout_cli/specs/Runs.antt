@@ -1,5 +1,5 @@
 -- What a run answers and leaves.
-use Rattle.std.specs.Prelude.{◌⊎◌, ◌^◌, ◌+◌, length, Some, None, ◌≡◌, ℕ, ◌<◌, ◌≤◌, List, [], ◌∷◌, ◌++◌, Option}
+use Rattle.std.specs.Prelude.{◌⊎◌, ◌^◌, ◌+◌, length, Some, None, ◌≡◌, ℕ, ◌<◌, ◌≤◌, List, [], ◌∷◌, ◌++◌, take, Option}
 use Rattle.stream_model.specs.Streams.{FromTo, last_count, Rose, Grew, TakesCount}
 use Rattle.stream_model.specs.Lines.{lines}
 use Rattle.stream_model.specs.Ledger.{Event, Log, NoneTwice, events}
@@ -27,6 +27,36 @@ abbrev pub Served : Option (List ℕ) → Option (List ℕ) → Option (List ℕ
 Served left left' held held' es es' =
     FromTo left left' (λ all rest. (rest ≡ []) × FromTo held held' (λ old new.
     (logs : List Log) × (text : List ℕ) × Replies the_setting (lines all) logs text × (new ≡ old ++ text) × (es' ≡ es ++ events logs)))
+
+-- a fact of what a stream tells, if it tells
+abbrev pub OnTold : Option (List ℕ) → (List ℕ → Type 0) → Type 0
+OnTold None P = Unit {0}
+OnTold (Some bytes) P = P bytes
+
+-- what was written of a text of replies, by how a run ended: all of it, and where the sink failed a prefix
+abbrev pub IsWritten : Status → List ℕ → List ℕ → Type 0
+IsWritten Done text bytes = bytes ≡ text
+IsWritten BadWords text bytes = ⊥
+IsWritten ReadFault text bytes = bytes ≡ text
+IsWritten WriteFault text bytes = (k : ℕ) × (k ≤ length text) × (bytes ≡ take k text)
+IsWritten NoMemory text bytes = bytes ≡ text
+IsWritten InputSpent text bytes = bytes ≡ text
+
+-- some first lines of all were answered, and this was written of the replies to them
+pub record BeginsReplies (status : Status) (all old new : List ℕ) : Type 0 where
+  pub first : List (List ℕ)
+  pub others : List (List ℕ)
+  pub logs : List Log
+  pub text : List ℕ
+  pub written : List ℕ
+  pub cut : lines all ≡ first ++ others
+  pub replies : Replies the_setting first logs text
+  pub appended : new ≡ old ++ written
+  pub part : IsWritten status text written
+
+-- however a run ends, what it wrote begins the replies to the script
+abbrev pub Wrote : Status → Option (List ℕ) → Option (List ℕ) → Option (List ℕ) → Type 0
+Wrote status left held held' = OnTold left (λ all. FromTo held held' (BeginsReplies status all))
 
 -- no pair stands twice in one of these logs
 abbrev pub AllOnce : List Log → Type 0

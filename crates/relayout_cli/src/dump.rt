@@ -1,6 +1,4 @@
 ghost use Rattle.std.specs.Prelude.{◌≡◌, ◌≤◌, ◌++◌, pos, codes, [], Some, OnOk, string_bytes};
-ghost use Rattle.page_model.specs.Document.{AreDistinct, ids};
-ghost use Rattle.dom_arena.specs.Children.{child_ids};
 ghost use Rattle.std.specs.Fmt.{decimal, signed_decimal};
 ghost use Rattle.reply_model.specs.Spelling.{field};
 ghost use Rattle.reply_model.specs.DumpText.{box_line, box_lines, all_box_lines};
@@ -14,7 +12,7 @@ use crate::boxes::Frame;
 use crate::limits::MAX_DEPTH;
 use crate::page::{Page, width_in_units};
 use crate::replies::{push_field, push_ok};
-use dom_arena::Doc;
+use dom_arena::{Children, Doc};
 use itoa::Buffer;
 use port_core::{NoMemory, NodeId};
 use units64::Units;
@@ -44,32 +42,32 @@ fn push_boxes(
     width: Units,
     levels: u32,
 ) -> Result<(), NoMemory>
-    requires distinct { AreDistinct (ids doc.now.root) }
-    requires reach { Reaches levels id doc.now.root }
+    requires { Reaches levels id doc.now.root }
     ensures { OnOk result (string_bytes reply.new ≡ string_bytes reply.old ++ box_lines (all_flat width) (pos 0) (pos 0) (node_at id doc.now.root)) }
 {
     match doc.tag(id) {
         Some(tag) => {
             push_box(reply, id, tag, &Frame::flat(width))?;
-            push_children(reply, doc, id, width, levels - 1)
+            let kids = doc.children(id);
+            push_children(reply, doc, kids, width, levels - 1)
         }
         None => Ok(()),
     }
 }
 
+/// Appends the lines of these children's boxes and of those below them.
 #[cycle(walk)]
 fn push_children(
     reply: &mut String,
     doc: &Doc,
-    id: NodeId,
+    kids: Children,
     width: Units,
     levels: u32,
 ) -> Result<(), NoMemory>
-    requires distinct { AreDistinct (ids doc.now.root) }
-    requires reach { AllReach levels (child_ids id doc.now.root) doc.now.root }
-    ensures { OnOk result (string_bytes reply.new ≡ string_bytes reply.old ++ all_box_lines (all_flat width) (pos 0) (pos 0) (nodes_at (child_ids id doc.now.root) doc.now.root)) }
+    requires { AllReach levels kids doc.now.root }
+    ensures { OnOk result (string_bytes reply.new ≡ string_bytes reply.old ++ all_box_lines (all_flat width) (pos 0) (pos 0) (nodes_at kids.entry doc.now.root)) }
 {
-    for kid in doc.children(id) {
+    for kid in kids {
         push_boxes(reply, doc, kid, width, levels)?;
     }
     Ok(())

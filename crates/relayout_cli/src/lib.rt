@@ -10,7 +10,6 @@ mod respond;
 mod running;
 mod serving;
 mod status;
-
 #[cfg(test)]
 mod tests;
 

@@ -7,13 +7,13 @@ pub enum Status {
     Done,
     /// The words of the command line are not those of the program.
     BadWords,
-    /// The source failed; every whole line before was answered.
+    /// The source failed; what was written is the replies to lines before.
     ReadFault,
     /// The sink failed; what was written is a prefix of the replies.
     WriteFault,
     /// No memory was left; the replies that were written are whole.
     NoMemory,
-    /// The source gave 4,294,967,296 bytes without an end; every whole line in them was answered.
+    /// The source gave 4,294,967,296 bytes without an end; what was written is the replies to lines in them.
     InputSpent,
 }
 

@@ -6,7 +6,9 @@ use std::process::Abort;
 use std::test::Fail;
 
 const LOAD_ONE: &[u8] = b"{\"do\":\"load\",\"width\":800,\"height\":600,\"doc\":[\"div\"]}\n";
+
 const DUMP: &[u8] = b"{\"do\":\"dump\"}";
+
 const ONE_BOX: &[u8] = b"ok 0 1\nbox 0 div 0 0 51200 0 51200 0\nok\n";
 
 /// The words of a command line.
@@ -121,9 +123,30 @@ fn expect_fault(
 fn faults_end_a_run_with_their_status(rt: HostRuntime) -> Result<(), Fail> {
     let inside = LOAD_ONE.len() as u64 + 5;
     let last = LOAD_ONE.len() as u64 + DUMP.len() as u64 + 1;
-    expect_fault(&rt, rt.alloc(), None, 10, Status::WriteFault, b"ok 0 1\nbox")?;
-    expect_fault(&rt, rt.alloc(), Some(inside), 1000, Status::ReadFault, b"ok 0 1\n")?;
-    expect_fault(&rt, rt.alloc(), Some(last), 1000, Status::ReadFault, ONE_BOX)?;
+    expect_fault(
+        &rt,
+        rt.alloc(),
+        None,
+        10,
+        Status::WriteFault,
+        b"ok 0 1\nbox",
+    )?;
+    expect_fault(
+        &rt,
+        rt.alloc(),
+        Some(inside),
+        1000,
+        Status::ReadFault,
+        b"ok 0 1\n",
+    )?;
+    expect_fault(
+        &rt,
+        rt.alloc(),
+        Some(last),
+        1000,
+        Status::ReadFault,
+        ONE_BOX,
+    )?;
     Ok(())
 }
 
@@ -152,14 +175,29 @@ fn refusals_name_their_cause(rt: HostRuntime) -> Result<(), Fail> {
         (b"{", b"error 1 bad-json\n"),
         (b"{\"do\":\"dump\"} x", b"error 1 bad-json\n"),
         (b"{\"do\":\"\xff\"}", b"error 1 bad-json\n"),
-        (b"{\"do\":\"dump\",\"a\":\"\\ud800\"}", b"error 1 bad-json\n"),
+        (
+            b"{\"do\":\"dump\",\"a\":\"\\ud800\"}",
+            b"error 1 bad-json\n",
+        ),
         (b"{\"do\":\"fly\"}", b"error 2 bad-request\n"),
         (b"{\"do\":\"dump\",\"at\":1}", b"error 2 bad-request\n"),
         (b"{\"do\":\"insert\"}", b"error 21 not-built\n"),
-        (b"{\"do\":\"load\",\"width\":10,\"height\":20,\"doc\":[\"p\"]}", b"error 21 not-built\n"),
-        (b"{\"do\":\"load\",\"width\":10001,\"height\":20,\"doc\":[\"div\"]}", b"error 21 not-built\n"),
-        (b"{\"do\":\"load\",\"width\":1,\"height\":1,\"doc\":[\"div\",\"text\"]}", b"error 21 not-built\n"),
-        (b"{\"do\":\"load\",\"width\":1,\"height\":1,\"doc\":\"div\"}", b"error 2 bad-request\n"),
+        (
+            b"{\"do\":\"load\",\"width\":10,\"height\":20,\"doc\":[\"p\"]}",
+            b"error 21 not-built\n",
+        ),
+        (
+            b"{\"do\":\"load\",\"width\":10001,\"height\":20,\"doc\":[\"div\"]}",
+            b"error 21 not-built\n",
+        ),
+        (
+            b"{\"do\":\"load\",\"width\":1,\"height\":1,\"doc\":[\"div\",\"text\"]}",
+            b"error 21 not-built\n",
+        ),
+        (
+            b"{\"do\":\"load\",\"width\":1,\"height\":1,\"doc\":\"div\"}",
+            b"error 2 bad-request\n",
+        ),
     ];
     for (line, reply) in table {
         expect_reply(&rt, rt.alloc(), line, reply)?;
@@ -168,7 +206,12 @@ fn refusals_name_their_cause(rt: HostRuntime) -> Result<(), Fail> {
 }
 
 /// A load of one `div` at this width, and the reply to it.
-fn expect_width(rt: &impl Abort, alloc: Global, width: &[u8], reply: &[u8]) -> Result<(), NoMemory> {
+fn expect_width(
+    rt: &impl Abort,
+    alloc: Global,
+    width: &[u8],
+    reply: &[u8],
+) -> Result<(), NoMemory> {
     let mut line = Vec::from_slice(alloc, b"{\"do\":\"load\",\"width\":")?;
     line.extend_from_slice(width)?;
     line.extend_from_slice(b",\"height\":1,\"doc\":[\"div\"]}")?;
@@ -217,7 +260,12 @@ fn limits_are_exact(rt: HostRuntime) -> Result<(), Fail> {
     let wider = repeated(rt.alloc(), front, b",[\"div\"]", 20_000, b"]}")?;
     expect_reply(&rt, rt.alloc(), wider.as_slice(), b"error 21 not-built\n")?;
     let long = repeated(rt.alloc(), b"", b"x", 4_194_305, b"\n{")?;
-    expect_reply(&rt, rt.alloc(), long.as_slice(), b"error 3 line-too-long\nerror 1 bad-json\n")?;
+    expect_reply(
+        &rt,
+        rt.alloc(),
+        long.as_slice(),
+        b"error 3 line-too-long\nerror 1 bad-json\n",
+    )?;
     Ok(())
 }
 
@@ -227,7 +275,13 @@ fn other_words_are_told_the_usage(rt: HostRuntime) -> Result<(), Fail> {
     let mut source = StdSource::new(LOAD_ONE);
     let mut sink = StdSink::new(Vec::new(rt.alloc()));
     let mut steps = Steps::new(());
-    let status = run(rt.alloc(), words.as_slice(), &mut source, &mut sink, &mut steps);
+    let status = run(
+        rt.alloc(),
+        words.as_slice(),
+        &mut source,
+        &mut sink,
+        &mut steps,
+    );
     assert_eq!(rt; status.number(), 2);
     Ok(())
 }

@@ -1,6 +1,5 @@
 use Rattle.std.proofs.Common.{◌≡◌, ◌+◌, ◌*◌, ◌++◌, string_bytes}
 use Rattle.std.specs.Prelude.{pos}
-use Rattle.dom_arena.specs.Children.{child_ids}
 use Rattle.reply_model.specs.DumpText.{all_box_lines}
 use Rattle.relayout_cli.specs.Walk.{nodes_at, AllReach}
 use Rattle.relayout_cli.specs.Flat.{all_flat}
@@ -12,7 +11,7 @@ decreases-push_boxes l = 2 * l.levels
 -- the lines so far and those of the rest are those of all
 abbrev pub invariant-push_children-loop-kid : goal.invariant-push_children-loop-kid
 invariant-push_children-loop-kid l = record {
-  told : string_bytes l.reply ++ all_box_lines (all_flat l.width) (pos 0) (pos 0) (nodes_at l.kid-iterator l.doc.root) ≡ string_bytes l.fn.reply ++ all_box_lines (all_flat l.width) (pos 0) (pos 0) (nodes_at (child_ids l.id l.doc.root) l.doc.root);
+  told : string_bytes l.reply ++ all_box_lines (all_flat l.width) (pos 0) (pos 0) (nodes_at l.kid-iterator l.doc.root) ≡ string_bytes l.fn.reply ++ all_box_lines (all_flat l.width) (pos 0) (pos 0) (nodes_at l.fn.kids l.doc.root);
   reach : AllReach l.levels l.kid-iterator l.doc.root;
 }
 

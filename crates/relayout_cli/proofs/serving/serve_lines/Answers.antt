@@ -1,10 +1,11 @@
-use Rattle.std.proofs.Common.{◌≡◌, ◌∙◌, ◌<◌, ◌≤◌, refl, inl, arith}
+use Rattle.std.proofs.Common.{[], None, ◌≡◌, ◌∙◌, ◌<◌, ◌≤◌, refl, inl, arith}
 use Rattle.port_core.specs.Reader.{ahead, max_taken}
 use Rattle.port_core.proofs.StreamLemmas.{TakesCount-none}
 use Rattle.request_model.specs.States.{asks_edit}
 use Rattle.relayout_requests.specs.Views.{asked_view}
 use Rattle.relayout_cli.specs.Pages.{state_view}
-use Rattle.relayout_cli.proofs.ServeLemmas.{Told-start, Told-more, Told-all, LogsOnce-none, LogsOnce-more, Grew-advances, TakesCount-advances, Taken-by}
+use Rattle.relayout_cli.specs.declared.status.Status.TheVariants.{Done, ReadFault, NoMemory, InputSpent}
+use Rattle.relayout_cli.proofs.ServeLemmas.{Told-start, Told-more, Told-all, LogsOnce-none, Wrote-told, Wrote-cut, LogsOnce-more, Grew-advances, TakesCount-advances, Taken-by}
 use Rattle.relayout_cli.proofs.serving.serve_lines.Goals as goal
 
 pub script-init : goal.script-init
@@ -80,3 +81,34 @@ pub returns-in-Spent-clause-taken : goal.returns-in-Spent-clause-taken
 returns-in-Spent-clause-taken g c =
     Taken-by (λ n. n ≡ max_taken) (g.I.Source.left c.args.source.now) (g.I.Source.left c.script.source) (g.I.Source.left c.read.new.source) (g.I.Source.taken c.args.source.now) (g.I.Source.taken c.script.source) (g.I.Source.taken c.read.new.source) c.script.reader c.read.new.reader
     c.in-Spent.ensures.comes.0 c.script.invariant.grew c.script.invariant.took c.read.ensures.advances
+
+pub returns-in-Failed-answer-clause-wrote : goal.returns-in-Failed-answer-clause-wrote
+returns-in-Failed-answer-clause-wrote g c =
+    Wrote-cut (g.I.Source.left c.args.source.now) (ahead c.script.reader.pending (g.I.Source.left c.script.source)) (ahead c.read.new.reader.pending (g.I.Source.left c.read.new.source))
+    (g.O.Sink.held c.args.sink.now) (g.O.Sink.held c.script.sink) (g.O.Sink.held c.answer.new.sink) c.args.steps.now c.script.steps (state_view c.script.state) (asked_view c.in-Asks.asked)
+    c.script.invariant.told c.in-Asks.ensures.comes.0 c.in-Failed-answer.ensures.0
+
+pub returns-in-NoMemory-answer-clause-wrote : goal.returns-in-NoMemory-answer-clause-wrote
+returns-in-NoMemory-answer-clause-wrote g c =
+    rw c.in-NoMemory-answer.ensures.0 (Wrote-told NoMemory (g.I.Source.left c.args.source.now) (ahead c.script.reader.pending (g.I.Source.left c.script.source)) (g.O.Sink.held c.args.sink.now) (g.O.Sink.held c.script.sink) c.args.steps.now c.script.steps (state_view c.script.state) (λ _. refl) c.script.invariant.told)
+
+pub returns-in-NoMemory-clause-wrote : goal.returns-in-NoMemory-clause-wrote
+returns-in-NoMemory-clause-wrote g c =
+    Wrote-told NoMemory (g.I.Source.left c.args.source.now) (ahead c.script.reader.pending (g.I.Source.left c.script.source)) (g.O.Sink.held c.args.sink.now) (g.O.Sink.held c.script.sink) c.args.steps.now c.script.steps (state_view c.script.state) (λ _. refl) c.script.invariant.told
+
+pub returns-in-End-clause-wrote : goal.returns-in-End-clause-wrote
+returns-in-End-clause-wrote g c =
+    Wrote-told Done (g.I.Source.left c.args.source.now) (ahead c.script.reader.pending (g.I.Source.left c.script.source)) (g.O.Sink.held c.args.sink.now) (g.O.Sink.held c.script.sink) c.args.steps.now c.script.steps (state_view c.script.state) (λ _. refl) c.script.invariant.told
+
+pub returns-in-Failed-clause-wrote : goal.returns-in-Failed-clause-wrote
+returns-in-Failed-clause-wrote g c =
+    Wrote-told ReadFault (g.I.Source.left c.args.source.now) (ahead c.script.reader.pending (g.I.Source.left c.script.source)) (g.O.Sink.held c.args.sink.now) (g.O.Sink.held c.script.sink) c.args.steps.now c.script.steps (state_view c.script.state) (λ _. refl) c.script.invariant.told
+
+pub returns-in-Spent-clause-wrote : goal.returns-in-Spent-clause-wrote
+returns-in-Spent-clause-wrote g c =
+    Wrote-told InputSpent (g.I.Source.left c.args.source.now) (ahead c.script.reader.pending (g.I.Source.left c.script.source)) (g.O.Sink.held c.args.sink.now) (g.O.Sink.held c.script.sink) c.args.steps.now c.script.steps (state_view c.script.state) (λ _. refl) c.script.invariant.told
+
+pub returns-in-Err-clause-wrote : goal.returns-in-Err-clause-wrote
+returns-in-Err-clause-wrote g c =
+    Wrote-told NoMemory (g.I.Source.left c.args.source.now) (ahead [] (g.I.Source.left c.args.source.now)) (g.O.Sink.held c.args.sink.now) (g.O.Sink.held c.args.sink.now) c.args.steps.now c.args.steps.now None (λ _. refl)
+    (Told-start (g.I.Source.left c.args.source.now) (g.O.Sink.held c.args.sink.now) c.args.steps.now)
