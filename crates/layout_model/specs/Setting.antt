@@ -16,7 +16,7 @@ pub record Advances : Type 0 where
 abbrev pub default_advances : Advances
 default_advances = record { default = 32; ranges = [] }
 
--- how wide characters are, and by which of its two sets of rules the program goes
+-- how wide characters are, and the number of the set of rules by which the program goes; there is only 1
 pub record Setting : Type 0 where
   pub advances : Advances
   pub profile : ℕ

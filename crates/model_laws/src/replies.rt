@@ -3,7 +3,7 @@ ghost use Rattle.stream_model.specs.Ledger.{Log};
 ghost use Rattle.layout_model.specs.Setting.{Setting};
 ghost use Rattle.reply_model.specs.Replies.{Replies};
 
-/// A script has one text of replies.
+/// Two texts of replies to a script are the same, and so are its logs.
 pub fn one_text()
     ensures { (setting : Setting) (lines : List (List ℕ)) (logs logs' : List Log) (text text' : List ℕ) → Replies setting lines logs text → Replies setting lines logs' text' → (text ≡ text') × (logs ≡ logs') }
 {}

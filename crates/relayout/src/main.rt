@@ -1,7 +1,7 @@
 //! The program `relayout`: a script of requests on standard input, one a line, and the replies on standard output.
 #![tactic(auto)]
 
-use port_core::{StdSink, StdSource, Steps};
+use port_core::{NoMemory, StdSink, StdSource, Steps};
 use relayout_cli::{Status, run};
 use std::env;
 use std::process::ExitCode;
@@ -19,7 +19,7 @@ fn main(rt: HostRuntime) -> ExitCode {
     };
     let words: Vec<String> = match args.collect(rt.alloc()) {
         Ok(words) => words,
-        Err(_) => return ExitCode::from(Status::NoMemory.number()),
+        Err(NoMemory) => return ExitCode::from(Status::NoMemory.number()),
     };
     let mut source = StdSource::new(rt.stdin());
     let mut sink = StdSink::new(rt.stdout());

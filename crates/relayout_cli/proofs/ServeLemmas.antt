@@ -14,10 +14,10 @@ use Rattle.port_core.specs.Reader.{Reader, ahead, Gives, CountsFaults}
 use Rattle.port_core.specs.declared.reader.Line.{Line}
 use Rattle.port_core.specs.declared.reader.Line.TheVariants.{TooLong, End}
 use Rattle.port_core.proofs.StreamLemmas.{FromTo-joins, FromTo-weaker, Grew-joins, TakesCount-joins}
-use Rattle.relayout_cli.specs.Runs.{the_setting, AnswersTo, Served, IsWritten, BeginsReplies, Wrote, LogsOnce, AllOnce, FaultsBy, TakenBy, IsUntroubled, HasFewer, IsDoneButForMemory}
+use Rattle.relayout_cli.specs.Runs.{the_setting, AnswersTo, Served, IsWritten, IsLogged, BeginsReplies, Wrote, LogsOnce, AllOnce, FaultsBy, TakenBy, IsUntroubled, HasFewer, IsDoneButForMemory}
 use Rattle.relayout_cli.specs.declared.status.Status.{Status}
 use Rattle.relayout_cli.specs.declared.status.Status.TheVariants.{Done, BadWords, ReadFault, WriteFault, NoMemory, InputSpent}
-use Rattle.relayout_cli.specs.Coming.{Advances}
+use Rattle.relayout_cli.specs.Coming.{ReadsOn}
 use Rattle.relayout_cli.specs.Turns.{own_logs}
 
 -- ---- ledgers
@@ -200,21 +200,21 @@ counts-too_long (Some x) faults faults' e = e
 
 -- ---- bytes taken
 
-pub Grew-advances : (left left' : Option (List ℕ)) (t0 t1 t2 : ℕ) (old new : Reader) → Grew t0 old.taken t1 → Advances old new left left' t1 t2 → Grew t0 new.taken t2
-Grew-advances left left' t0 t1 t2 old new grew a =
+pub Grew-reads_on : (left left' : Option (List ℕ)) (t0 t1 t2 : ℕ) (old new : Reader) → Grew t0 old.taken t1 → ReadsOn old new left left' t1 t2 → Grew t0 new.taken t2
+Grew-reads_on left left' t0 t1 t2 old new grew a =
     let sum : old.taken + (new.taken - old.taken) ≡ new.taken = omega (arith, a.forward) in
     Grew-joins t0 t1 t2 old.taken (new.taken - old.taken) new.taken sum grew a.grew
 
-pub TakesCount-advances : (left mid left' : Option (List ℕ)) (t1 t2 : ℕ) (old new : Reader) → TakesCount left mid old.taken → Advances old new mid left' t1 t2 → TakesCount left left' new.taken
-TakesCount-advances left mid left' t1 t2 old new took a =
+pub TakesCount-reads_on : (left mid left' : Option (List ℕ)) (t1 t2 : ℕ) (old new : Reader) → TakesCount left mid old.taken → ReadsOn old new mid left' t1 t2 → TakesCount left left' new.taken
+TakesCount-reads_on left mid left' t1 t2 old new took a =
     let sum : old.taken + (new.taken - old.taken) ≡ new.taken = omega (arith, a.forward) in
     TakesCount-joins left mid left' old.taken (new.taken - old.taken) new.taken sum took a.told
 
 -- what a run took before and takes now
 pub Taken-by : (P : ℕ → Type 0) (left mid left' : Option (List ℕ)) (t0 t1 t2 : ℕ) (old new : Reader) → P new.taken → Grew t0 old.taken t1 → TakesCount left mid old.taken
-    → Advances old new mid left' t1 t2 → (n : ℕ) × P n × Grew t0 n t2 × TakesCount left left' n
+    → ReadsOn old new mid left' t1 t2 → (n : ℕ) × P n × Grew t0 n t2 × TakesCount left left' n
 Taken-by P left mid left' t0 t1 t2 old new p grew took a =
-    (new.taken, p, Grew-advances mid left' t0 t1 t2 old new grew a, TakesCount-advances left mid left' t1 t2 old new took a)
+    (new.taken, p, Grew-reads_on mid left' t0 t1 t2 old new grew a, TakesCount-reads_on left mid left' t1 t2 old new took a)
 
 -- ---- completeness
 
@@ -235,30 +235,39 @@ replies-done : (all rest old new : List ℕ) (es es' : List Event) (s : State) (
 replies-done all rest old new es es' s a =
     rw (← append-nil a.done, ← append-nil a.logs, ← append-nil a.text) (a.goes_on [] [] [] (AreReplies-none (record { state = s; last = a.last })))
 
-BeginsReplies-answered : (status : Status) (all rest old new : List ℕ) (es es' : List Event) (s : State) → ((text : List ℕ) → IsWritten status text text) → Answered all rest old new es es' s → BeginsReplies status all old new
-BeginsReplies-answered status all rest old new es es' s whole a = record {
+BeginsReplies-answered : (status : Status) (all rest old new : List ℕ) (es es1 es' : List Event) (s : State) → ((text : List ℕ) → IsWritten status text text)
+    → ((logs : List Log) → es1 ≡ es ++ events logs → IsLogged status logs es es') → Answered all rest old new es es1 s → BeginsReplies status all es es' old new
+BeginsReplies-answered status all rest old new es es1 es' s whole logged a = record {
   first = a.done;
   others = lines rest;
   logs = a.logs;
   text = a.text;
   written = a.text;
   cut = a.cut;
-  replies = replies-done all rest old new es es' s a;
+  replies = replies-done all rest old new es es1 s a;
   appended = a.appended;
   part = whole a.text;
+  logged = logged a.logs a.logged;
 }
 
 -- whole replies were written
-pub Wrote-told : (status : Status) (left mid held held' : Option (List ℕ)) (es es' : List Event) (s : State) → ((text : List ℕ) → IsWritten status text text)
-    → Told left mid held held' es es' s → Wrote status left held held'
-Wrote-told status None mid held held' es es' s whole told = tt
-Wrote-told status (Some all) None held held' es es' s whole told = absurd told
-Wrote-told status (Some all) (Some rest) held held' es es' s whole told =
-    FromTo-weaker held held' (λ old new. Answered all rest old new es es' s) (BeginsReplies status all) (λ old new a. BeginsReplies-answered status all rest old new es es' s whole a) told
+pub Wrote-told : (status : Status) (left mid held held' : Option (List ℕ)) (es es1 es' : List Event) (s : State) → ((text : List ℕ) → IsWritten status text text)
+    → ((logs : List Log) → es1 ≡ es ++ events logs → IsLogged status logs es es') → Told left mid held held' es es1 s → Wrote status left held held' es es'
+Wrote-told status None mid held held' es es1 es' s whole logged told = tt
+Wrote-told status (Some all) None held held' es es1 es' s whole logged told = absurd told
+Wrote-told status (Some all) (Some rest) held held' es es1 es' s whole logged told =
+    FromTo-weaker held held' (λ old new. Answered all rest old new es es1 s) (BeginsReplies status all es es') (λ old new a. BeginsReplies-answered status all rest old new es es1 es' s whole logged a) told
 
-BeginsReplies-cut : (all mid rest old new new' : List ℕ) (es es1 : List Event) (s : State) (line reply : List ℕ) (k : ℕ)
-    → Answered all mid old new es es1 s → lines mid ≡ line ∷ lines rest → AnswersTo s (asked line) reply → k ≤ length reply → new' ≡ new ++ take k reply → BeginsReplies WriteFault all old new'
-BeginsReplies-cut all mid rest old new new' es es1 s line reply k a first told within push =
+-- the ledger where memory ran out in answering
+pub IsLogged-begun : (b : Bool) (es es1 es2 : List Event) (logs : List Log) → es1 ≡ es ++ events logs → es2 ≡ es1 ++ events (own_logs b) → IsLogged NoMemory logs es es2
+IsLogged-begun true es es1 es2 logs e f =
+    inr (f ∙ (ap (λ (x : List Event). x ++ events ([] ∷ [])) e ∙ (append_assoc es (events logs) (events ([] ∷ [])) ∙ ap (λ (x : List Event). es ++ x) (sym (events-append logs ([] ∷ []))))))
+IsLogged-begun false es es1 es2 logs e f = inl (f ∙ (append-nil es1 ∙ e))
+
+BeginsReplies-cut : (all mid rest old new new' : List ℕ) (es es1 es2 : List Event) (s : State) (line reply : List ℕ) (k : ℕ)
+    → Answered all mid old new es es1 s → lines mid ≡ line ∷ lines rest → AnswersTo s (asked line) reply → k ≤ length reply → new' ≡ new ++ take k reply
+    → es2 ≡ es1 ++ events (own_logs (asks_edit (asked line))) → BeginsReplies WriteFault all es es2 old new'
+BeginsReplies-cut all mid rest old new new' es es1 es2 s line reply k a first told within push log =
     let own : List Log = own_logs (asks_edit (asked line)) in
     let s' : State = left_by s (judged s (asked line)) in
     record {
@@ -272,16 +281,18 @@ BeginsReplies-cut all mid rest old new new' es es1 s line reply k a first told w
           (line-first (record { state = s; last = a.last }) line reply s' told refl [] [] [] (AreReplies-none (record { state = s'; last = latest (answer s line) own a.last })));
       appended = push ∙ (ap (λ (x : List ℕ). x ++ take k reply) a.appended ∙ append_assoc old a.text (take k reply));
       part = (length a.text + k, rw append-nil (omega (arith, length-append a.text reply)), rw append-nil (sym (take-append-add a.text reply k)));
+      logged = log ∙ (ap (λ (x : List Event). x ++ events own) a.logged ∙ (append_assoc es (events a.logs) (events own)
+          ∙ ap (λ (x : List Event). es ++ x) (sym (events-append a.logs own) ∙ ap events (ap (λ (x : List Log). a.logs ++ x) (sym (append-nil own))))));
     }
 
 -- a prefix of the last reply was written
-pub Wrote-cut : (left mid left' held held1 held2 : Option (List ℕ)) (es es1 : List Event) (s : State) (a : Asked)
+pub Wrote-cut : (left mid left' held held1 held2 : Option (List ℕ)) (es es1 es2 : List Event) (s : State) (a : Asked)
     → Told left mid held held1 es es1 s
     → FromTo mid left' (λ all rest. (line : List ℕ) × (lines all ≡ line ∷ lines rest) × (asked line ≡ a))
-    → ((reply : List ℕ) × AnswersTo s a reply × AppendsPart held1 held2 reply) → Wrote WriteFault left held held2
-Wrote-cut None mid left' held held1 held2 es es1 s a told read reply = tt
-Wrote-cut (Some all) None left' held held1 held2 es es1 s a told read reply = absurd told
-Wrote-cut (Some all) (Some x) None held held1 held2 es es1 s a told read reply = absurd read
-Wrote-cut (Some all) (Some x) (Some y) held held1 held2 es es1 s a told read reply =
-    FromTo-joins held held1 held2 (λ old new. Answered all x old new es es1 s) (λ old new. (k : ℕ) × (k ≤ length reply.0) × (new ≡ old ++ take k reply.0)) (BeginsReplies WriteFault all)
-    (λ old new new' so_far push. BeginsReplies-cut all x y old new new' es es1 s read.0 reply.0 push.0 so_far read.1 (subst (λ (b : Asked). AnswersTo s b reply.0) (sym read.2) reply.1) push.1 push.2) told reply.2
+    → ((reply : List ℕ) × AnswersTo s a reply × AppendsPart held1 held2 reply) → es2 ≡ es1 ++ events (own_logs (asks_edit a)) → Wrote WriteFault left held held2 es es2
+Wrote-cut None mid left' held held1 held2 es es1 es2 s a told read reply log = tt
+Wrote-cut (Some all) None left' held held1 held2 es es1 es2 s a told read reply log = absurd told
+Wrote-cut (Some all) (Some x) None held held1 held2 es es1 es2 s a told read reply log = absurd read
+Wrote-cut (Some all) (Some x) (Some y) held held1 held2 es es1 es2 s a told read reply log =
+    FromTo-joins held held1 held2 (λ old new. Answered all x old new es es1 s) (λ old new. (k : ℕ) × (k ≤ length reply.0) × (new ≡ old ++ take k reply.0)) (BeginsReplies WriteFault all es es2)
+    (λ old new new' so_far push. BeginsReplies-cut all x y old new new' es es1 es2 s read.0 reply.0 push.0 so_far read.1 (subst (λ (b : Asked). AnswersTo s b reply.0) (sym read.2) reply.1) push.1 push.2 (rw read.2 log)) told reply.2

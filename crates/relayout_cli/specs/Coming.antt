@@ -25,7 +25,7 @@ Comes coming.Spent old new left left' faults faults' = (new.taken ≡ max_taken)
 Comes coming.NoMemory old new left left' faults faults' = faults' ≡ faults
 
 -- bytes were taken, as many as the reader and the source say
-pub record Advances (old new : Reader) (left left' : Option (List ℕ)) (taken taken' : ℕ) : Type 0 where
+pub record ReadsOn (old new : Reader) (left left' : Option (List ℕ)) (taken taken' : ℕ) : Type 0 where
   pub forward : old.taken ≤ new.taken
   pub bounded : new.taken ≤ max_taken
   pub grew : Grew taken (new.taken - old.taken) taken'

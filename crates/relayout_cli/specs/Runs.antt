@@ -42,8 +42,17 @@ IsWritten WriteFault text bytes = (k : ℕ) × (k ≤ length text) × (bytes ≡
 IsWritten NoMemory text bytes = bytes ≡ text
 IsWritten InputSpent text bytes = bytes ≡ text
 
--- some first lines of all were answered, and this was written of the replies to them
-pub record BeginsReplies (status : Status) (all old new : List ℕ) : Type 0 where
+-- the ledger has these logs, and where memory ran out one may have begun after them
+abbrev pub IsLogged : Status → List Log → List Event → List Event → Type 0
+IsLogged Done logs es es' = es' ≡ es ++ events logs
+IsLogged BadWords logs es es' = ⊥
+IsLogged ReadFault logs es es' = es' ≡ es ++ events logs
+IsLogged WriteFault logs es es' = es' ≡ es ++ events logs
+IsLogged NoMemory logs es es' = (es' ≡ es ++ events logs) ⊎ (es' ≡ es ++ events (logs ++ [] ∷ []))
+IsLogged InputSpent logs es es' = es' ≡ es ++ events logs
+
+-- some first lines of all were answered, this was written of the replies to them, and the ledger has their logs
+pub record BeginsReplies (status : Status) (all : List ℕ) (es es' : List Event) (old new : List ℕ) : Type 0 where
   pub first : List (List ℕ)
   pub others : List (List ℕ)
   pub logs : List Log
@@ -53,10 +62,11 @@ pub record BeginsReplies (status : Status) (all old new : List ℕ) : Type 0 whe
   pub replies : Replies the_setting first logs text
   pub appended : new ≡ old ++ written
   pub part : IsWritten status text written
+  pub logged : IsLogged status logs es es'
 
--- however a run ends, what it wrote begins the replies to the script
-abbrev pub Wrote : Status → Option (List ℕ) → Option (List ℕ) → Option (List ℕ) → Type 0
-Wrote status left held held' = OnTold left (λ all. FromTo held held' (BeginsReplies status all))
+-- however a run over a script ends, what it wrote begins the replies to it
+abbrev pub Wrote : Status → Option (List ℕ) → Option (List ℕ) → Option (List ℕ) → List Event → List Event → Type 0
+Wrote status left held held' es es' = OnTold left (λ all. FromTo held held' (BeginsReplies status all es es'))
 
 -- no pair stands twice in one of these logs
 abbrev pub AllOnce : List Log → Type 0
@@ -69,7 +79,7 @@ LogsOnce es es' = (logs : List Log) × AllOnce logs × (es' ≡ es ++ events log
 
 -- ---- causes, by how a run ended
 
--- the counts of faults of the source and of the sink before and after: a run that ends with a fault ends with the first, and nothing else failed
+-- the counts of faults of the source and of the sink before and after: a run ends with a fault only where the count of that side rose, and the other's did not
 abbrev pub FaultsBy : Status → ℕ → ℕ → ℕ → ℕ → Type 0
 FaultsBy Done source source' sink sink' = (source' ≡ source) × (sink' ≡ sink)
 FaultsBy BadWords source source' sink sink' = (source' ≡ source) × (sink' ≡ sink)

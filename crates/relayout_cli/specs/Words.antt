@@ -20,14 +20,14 @@ Ran Done words left left' held held' es es' = AreWords words × Served left left
 Ran BadWords words left left' held held' es es' = (words ≢ 1) × Appends held held' usage
 Ran ReadFault words left left' held held' es es' = AreWords words
 Ran WriteFault words left left' held held' es es' = words ≢ 1 → AppendsPart held held' usage
-Ran NoMemory words left left' held held' es es' = Unit {0}
+Ran NoMemory words left left' held held' es es' = words ≢ 1 → held' ≡ held
 Ran InputSpent words left left' held held' es es' = AreWords words
 
 -- what telling the usage did, by how it ended
-abbrev pub Tells : Status → Option (List ℕ) → Option (List ℕ) → ℕ → ℕ → Type 0
-Tells BadWords held held' faults faults' = Appends held held' usage × (faults' ≡ faults)
-Tells WriteFault held held' faults faults' = AppendsPart held held' usage × (faults ≤ faults') × Rose faults faults'
-Tells Done held held' faults faults' = ⊥
-Tells ReadFault held held' faults faults' = ⊥
-Tells NoMemory held held' faults faults' = ⊥
-Tells InputSpent held held' faults faults' = ⊥
+abbrev pub TellsUsage : Status → Option (List ℕ) → Option (List ℕ) → ℕ → ℕ → Type 0
+TellsUsage BadWords held held' faults faults' = Appends held held' usage × (faults' ≡ faults)
+TellsUsage WriteFault held held' faults faults' = AppendsPart held held' usage × (faults ≤ faults') × Rose faults faults'
+TellsUsage Done held held' faults faults' = ⊥
+TellsUsage ReadFault held held' faults faults' = ⊥
+TellsUsage NoMemory held held' faults faults' = ⊥
+TellsUsage InputSpent held held' faults faults' = ⊥

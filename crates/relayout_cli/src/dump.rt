@@ -33,7 +33,7 @@ pub fn push_dump(page: &Page, reply: &mut String) -> Result<(), NoMemory>
     push_ok(reply)
 }
 
-/// Appends the lines of an element's box and of the boxes below it, in document order. Each block fills the width that it has, and stands at the corner of the block around it.
+/// Appends the lines of an element's box and of the boxes below it, in document order. Each block fills the width that it has, and stands at the corner of the block around it. No box stands more than `levels` deep below: the recursion ends by that, and nothing is cut.
 #[cycle(walk)]
 fn push_boxes(
     reply: &mut String,
@@ -55,7 +55,7 @@ fn push_boxes(
     }
 }
 
-/// Appends the lines of these children's boxes and of those below them.
+/// Appends the lines of these children's boxes and of those below them, none more than `levels` deep.
 #[cycle(walk)]
 fn push_children(
     reply: &mut String,

@@ -10,7 +10,7 @@ use units64::Units;
 pub const MAX_SIDE: u64 = 10_000;
 
 /// How many units a pixel has.
-const UNITS_OF_PIXEL: i64 = 64;
+const UNITS_PER_PIXEL: i64 = 64;
 
 /// The viewport's sides, in pixels, each at most 10,000.
 #[derive(Clone, Copy, Debug, PartialEq, Eq)]
@@ -33,5 +33,5 @@ pub struct Page {
 pub fn width_in_units(viewport: Viewport) -> Units
     ensures { result ≡ units_of_pixels viewport.width }
 {
-    Units::new(UNITS_OF_PIXEL * viewport.width as i64)
+    Units::new(UNITS_PER_PIXEL * viewport.width as i64)
 }

@@ -1,8 +1,7 @@
-ghost use Rattle.std.specs.Prelude.{◌≡◌, ◌≤◌, [], OnOk, OnErr, Some, None, option_map, unwrap_or, string_bytes};
+ghost use Rattle.std.specs.Prelude.{◌≡◌, [], OnOk, OnErr, IfOk, IfErr, Some, None, unwrap_or, string_bytes};
 ghost use Rattle.page_model.specs.Pages.{State};
 ghost use Rattle.request_model.specs.Requests.{edit, request, dump};
 ghost use Rattle.request_model.specs.States.{refusal_of, judged, left_by, edited};
-ghost use Rattle.page_model.specs.Limits.{max_nodes};
 ghost use Rattle.page_model.specs.Trees.{size};
 ghost use Rattle.dom_arena.specs.Shape.{shape};
 ghost use Rattle.reply_model.specs.Spelling.{ok_nodes_line};
@@ -14,7 +13,7 @@ use crate::dump::push_dump;
 use crate::limits::{MAX_DEPTH, MAX_NODES, is_plain_tree, is_within, room_after};
 use crate::page::{MAX_SIDE, Page, Viewport};
 use crate::replies::{push_error, push_ok_nodes};
-use dom_arena::{Doc, DocFault, Tree};
+use dom_arena::{Doc, DocFault};
 use port_core::{NoMemory, Seq, Text};
 use relayout_requests::{Asked, Edit, Load, Refusal, Request};
 use std::alloc::Global;
@@ -51,37 +50,43 @@ fn respond_load(
     ensures state { OnOk result (state_view state.new ≡ left_by (state_view state.old) (judged (state_view state.old) (request (edit (load_view load))))) }
     ensures kept { OnErr result (state.new ≡ state.old) }
 {
-    match refuse_load(&load) {
-        Some(refusal) => push_error(reply, refusal),
-        None => carry_out_load(alloc, state, load, reply),
+    match check_load(&load) {
+        Ok(nodes) => carry_out_load(alloc, state, load, nodes, reply),
+        Err(refusal) => push_error(reply, refusal),
     }
 }
 
-/// Why a load is refused, if it is.
+/// How many nodes the document of a load has, or why it is refused.
 #[tactic(auto, unfolding(request_model::specs::States::refusal_of))]
-fn refuse_load(load: &Load) -> Option<Refusal>
-    ensures { (s : State) → option_map refusal_view result ≡ refusal_of s (edit (load_view load.now)) }
+fn check_load(load: &Load) -> Result<u32, Refusal>
+    ensures accepted { IfOk result (λ nodes. (nodes ≡ size (shape load.now.doc)) × ((s : State) → refusal_of s (edit (load_view load.now)) ≡ None)) }
+    ensures refused { IfErr result (λ refusal. (s : State) → refusal_of s (edit (load_view load.now)) ≡ Some (refusal_view refusal)) }
 {
     if load.width > MAX_SIDE || load.height > MAX_SIDE {
-        return Some(Refusal::NotBuilt);
+        return Err(Refusal::NotBuilt);
     }
     if load.sheets.is_some() || !is_plain_tree(&load.doc) {
-        return Some(Refusal::NotBuilt);
+        return Err(Refusal::NotBuilt);
     }
-    if !is_within(&load.doc, MAX_DEPTH) || room_after(&load.doc, MAX_NODES).is_none() {
-        return Some(Refusal::NotBuilt);
+    if !is_within(&load.doc, MAX_DEPTH) {
+        return Err(Refusal::NotBuilt);
     }
-    None
+    match room_after(&load.doc, MAX_NODES) {
+        Some(left) => Ok(MAX_NODES - left),
+        None => Err(Refusal::NotBuilt),
+    }
 }
 
-/// Carries out a load that is not refused.
+/// Carries out a load that is not refused, of so many nodes.
 fn carry_out_load(
     alloc: Global,
     state: &mut Option<Page>,
     load: Load,
+    nodes: u32,
     reply: &mut String,
 ) -> Result<(), NoMemory>
     requires empty { string_bytes reply.old ≡ [] }
+    requires counted { nodes ≡ size (shape load.doc) }
     requires accepted { (s : State) → refusal_of s (edit (load_view load)) ≡ None }
     ensures reply { OnOk result (string_bytes reply.new ≡ ok_nodes_line 0 (size (shape load.doc))) }
     ensures state { OnOk result (state_view state.new ≡ edited (state_view state.old) (load_view load)) }
@@ -97,24 +102,14 @@ fn carry_out_load(
         Ok(document) => document,
         Err(DocFault::NoMemory) => return Err(NoMemory),
     };
-    push_ok_nodes(reply, 0, count_nodes(&doc))?;
+    let viewport = Viewport { width, height };
+    push_ok_nodes(reply, 0, nodes)?;
     *state = Some(Page {
         document,
         sheets: sheets_or_none(alloc, sheets),
-        viewport: Viewport { width, height },
+        viewport,
     });
     Ok(())
-}
-
-/// How many nodes a tree has that a document has room for.
-fn count_nodes(tree: &Tree) -> u32
-    requires { size (shape tree.now) ≤ max_nodes }
-    ensures { result ≡ size (shape tree.now) }
-{
-    match room_after(tree, MAX_NODES) {
-        Some(left) => MAX_NODES - left,
-        None => MAX_NODES,
-    }
 }
 
 /// The style sheets that were given, or none.

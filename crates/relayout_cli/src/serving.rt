@@ -5,7 +5,7 @@ ghost use Rattle.relayout_requests.specs.Views.{asked_view};
 ghost use Rattle.relayout_cli.specs.Pages.{state_view};
 ghost use Rattle.relayout_cli.specs.Runs.{Served, Wrote, LogsOnce, FaultsBy, TakenBy, IsUntroubled, HasFewer, IsDoneButForMemory};
 ghost use Rattle.port_core.specs.Reader.{HasNotFailed};
-ghost use Rattle.relayout_cli.specs.Coming.{Comes, Advances, IsAtEnd};
+ghost use Rattle.relayout_cli.specs.Coming.{Comes, ReadsOn, IsAtEnd};
 ghost use Rattle.relayout_cli.specs.Turns.{Turns, Tells, own_logs};
 
 use crate::page::Page;
@@ -33,8 +33,11 @@ pub enum Coming {
 /// How answering a line ended.
 #[derive(Clone, Copy, Debug, PartialEq, Eq)]
 pub enum Turn {
+    /// The reply was written, if there is one.
     Answered,
+    /// The sink failed.
     Failed,
+    /// There was no memory for the reply.
     NoMemory,
 }
 
@@ -49,7 +52,7 @@ pub fn serve<I: Source, O: Sink, L: Drop>(
     requires { profile ≡ 1 }
     // What is answered.
     ensures done { result ≡ Status.Done → Served (I.left source.old) (I.left source.new) (O.held sink.old) (O.held sink.new) steps.old steps.new }
-    ensures wrote { Wrote result (I.left source.old) (O.held sink.old) (O.held sink.new) }
+    ensures wrote { Wrote result (I.left source.old) (O.held sink.old) (O.held sink.new) steps.old steps.new }
     ensures complete { IsUntroubled (I.faults source.old) (I.faults source.new) (O.faults sink.old) (O.faults sink.new) → HasFewer (I.left source.old) (I.taken source.old) (I.taken source.new) → IsDoneButForMemory result }
     ensures once { LogsOnce steps.old steps.new }
 
@@ -71,7 +74,7 @@ fn serve_lines<I: Source, O: Sink, L: Drop>(
     steps: &mut Steps<L>,
 ) -> Status
     ensures done { result ≡ Status.Done → Served (I.left source.old) (I.left source.new) (O.held sink.old) (O.held sink.new) steps.old steps.new }
-    ensures wrote { Wrote result (I.left source.old) (O.held sink.old) (O.held sink.new) }
+    ensures wrote { Wrote result (I.left source.old) (O.held sink.old) (O.held sink.new) steps.old steps.new }
     ensures once { LogsOnce steps.old steps.new }
     ensures faults { FaultsBy result (I.faults source.old) (I.faults source.new) (O.faults sink.old) (O.faults sink.new) }
     ensures taken { TakenBy result (I.left source.old) (I.left source.new) (I.taken source.old) (I.taken source.new) }
@@ -103,7 +106,7 @@ fn read<I: Source>(alloc: Global, reader: &mut LineReader, source: &mut I) -> Co
     requires going { HasNotFailed reader.old }
     requires ended { IsAtEnd reader.old (I.left source.old) }
     ensures comes { Comes result reader.old reader.new (I.left source.old) (I.left source.new) (I.faults source.old) (I.faults source.new) }
-    ensures advances { Advances reader.old reader.new (I.left source.old) (I.left source.new) (I.taken source.old) (I.taken source.new) }
+    ensures reads_on { ReadsOn reader.old reader.new (I.left source.old) (I.left source.new) (I.taken source.old) (I.taken source.new) }
 {
     match reader.next(source) {
         Line::Whole => match ask(alloc, reader.line()) {

@@ -1,6 +1,6 @@
 //! Whole scripts, with the replies that they must have.
 use crate::{Status, run};
-use port_core::{MemSink, MemSource, NoMemory, StdSink, StdSource, Steps};
+use port_core::{MemSink, MemSource, NoMemory, Steps};
 use std::alloc::Global;
 use std::process::Abort;
 use std::test::Fail;
@@ -163,15 +163,11 @@ fn whole_documents_are_dumped(rt: HostRuntime) -> Result<(), Fail> {
     Ok(())
 }
 
-/// A line by itself, and the reply to it.
-fn expect_reply(rt: &impl Abort, alloc: Global, line: &[u8], reply: &[u8]) -> Result<(), NoMemory> {
-    expect_replies(rt, alloc, line, reply)
-}
-
 #[test]
 fn refusals_name_their_cause(rt: HostRuntime) -> Result<(), Fail> {
-    let table: [(&[u8], &[u8]); 12] = [
+    let table: [(&[u8], &[u8]); 13] = [
         (b"{\"do\":\"dump\"}", b"error 4 not-loaded\n"),
+        (b"{\"do\":\"fly\",\"do\":\"dump\"}", b"error 4 not-loaded\n"),
         (b"{", b"error 1 bad-json\n"),
         (b"{\"do\":\"dump\"} x", b"error 1 bad-json\n"),
         (b"{\"do\":\"\xff\"}", b"error 1 bad-json\n"),
@@ -200,7 +196,7 @@ fn refusals_name_their_cause(rt: HostRuntime) -> Result<(), Fail> {
         ),
     ];
     for (line, reply) in table {
-        expect_reply(&rt, rt.alloc(), line, reply)?;
+        expect_replies(&rt, rt.alloc(), line, reply)?;
     }
     Ok(())
 }
@@ -215,7 +211,7 @@ fn expect_width(
     let mut line = Vec::from_slice(alloc, b"{\"do\":\"load\",\"width\":")?;
     line.extend_from_slice(width)?;
     line.extend_from_slice(b",\"height\":1,\"doc\":[\"div\"]}")?;
-    expect_reply(rt, alloc, line.as_slice(), reply)
+    expect_replies(rt, alloc, line.as_slice(), reply)
 }
 
 #[test]
@@ -236,44 +232,78 @@ fn numbers_are_written_in_digits_alone(rt: HostRuntime) -> Result<(), Fail> {
     Ok(())
 }
 
-/// The line `front`, `part` so many times, `back`.
-fn repeated(
-    alloc: Global,
-    front: &[u8],
-    part: &[u8],
-    times: usize,
-    back: &[u8],
-) -> Result<Vec<u8>, NoMemory> {
-    let mut line = Vec::from_slice(alloc, front)?;
+/// Appends this so many times.
+fn repeat(line: &mut Vec<u8>, part: &[u8], times: usize) -> Result<(), NoMemory> {
     for _ in 0..times {
         line.extend_from_slice(part)?;
     }
-    line.extend_from_slice(back)?;
+    Ok(())
+}
+
+/// A load whose root has so many children.
+fn wide(alloc: Global, children: usize) -> Result<Vec<u8>, NoMemory> {
+    let mut line = Vec::from_slice(
+        alloc,
+        b"{\"do\":\"load\",\"width\":1,\"height\":1,\"doc\":[\"div\"",
+    )?;
+    repeat(&mut line, b",[\"div\"]", children)?;
+    line.extend_from_slice(b"]}")?;
+    Ok(line)
+}
+
+/// A load of a document with so many levels below its root.
+fn deep(alloc: Global, levels: usize) -> Result<Vec<u8>, NoMemory> {
+    let mut line = Vec::from_slice(
+        alloc,
+        b"{\"do\":\"load\",\"width\":1,\"height\":1,\"doc\":[\"div\"",
+    )?;
+    repeat(&mut line, b",[\"div\"", levels)?;
+    repeat(&mut line, b"]", levels)?;
+    line.extend_from_slice(b"]}")?;
     Ok(line)
 }
 
 #[test]
-fn limits_are_exact(rt: HostRuntime) -> Result<(), Fail> {
-    let front = b"{\"do\":\"load\",\"width\":1,\"height\":1,\"doc\":[\"div\"";
-    let wide = repeated(rt.alloc(), front, b",[\"div\"]", 19_999, b"]}")?;
-    expect_reply(&rt, rt.alloc(), wide.as_slice(), b"ok 0 20000\n")?;
-    let wider = repeated(rt.alloc(), front, b",[\"div\"]", 20_000, b"]}")?;
-    expect_reply(&rt, rt.alloc(), wider.as_slice(), b"error 21 not-built\n")?;
-    let long = repeated(rt.alloc(), b"", b"x", 4_194_305, b"\n{")?;
-    expect_reply(
+fn limits_of_a_document_are_exact(rt: HostRuntime) -> Result<(), Fail> {
+    let widest = wide(rt.alloc(), 19_999)?;
+    expect_replies(&rt, rt.alloc(), widest.as_slice(), b"ok 0 20000\n")?;
+    let wider = wide(rt.alloc(), 20_000)?;
+    expect_replies(&rt, rt.alloc(), wider.as_slice(), b"error 21 not-built\n")?;
+    let deepest = deep(rt.alloc(), 95)?;
+    expect_replies(&rt, rt.alloc(), deepest.as_slice(), b"ok 0 96\n")?;
+    let deeper = deep(rt.alloc(), 96)?;
+    expect_replies(&rt, rt.alloc(), deeper.as_slice(), b"error 21 not-built\n")?;
+    // The document stands in the object of the request, so the JSON nests one level deeper.
+    let nested = deep(rt.alloc(), 125)?;
+    expect_replies(&rt, rt.alloc(), nested.as_slice(), b"error 21 not-built\n")?;
+    let too_nested = deep(rt.alloc(), 126 + 1)?;
+    expect_replies(
         &rt,
         rt.alloc(),
-        long.as_slice(),
-        b"error 3 line-too-long\nerror 1 bad-json\n",
+        too_nested.as_slice(),
+        b"error 1 bad-json\n",
     )?;
+    Ok(())
+}
+
+#[test]
+fn a_long_line_is_read_past(rt: HostRuntime) -> Result<(), Fail> {
+    let mut script = Vec::new(rt.alloc());
+    repeat(&mut script, b"x", 4_194_305)?;
+    script.push(b'\n')?;
+    script.extend_from_slice(LOAD_ONE)?;
+    script.extend_from_slice(DUMP)?;
+    let mut replies = Vec::from_slice(rt.alloc(), b"error 3 line-too-long\n")?;
+    replies.extend_from_slice(ONE_BOX)?;
+    expect_replies(&rt, rt.alloc(), script.as_slice(), replies.as_slice())?;
     Ok(())
 }
 
 #[test]
 fn other_words_are_told_the_usage(rt: HostRuntime) -> Result<(), Fail> {
     let words = words(rt.alloc(), true)?;
-    let mut source = StdSource::new(LOAD_ONE);
-    let mut sink = StdSink::new(Vec::new(rt.alloc()));
+    let mut source = MemSource::new(rt.alloc(), LOAD_ONE, 1000, None)?;
+    let mut sink = MemSink::new(rt.alloc(), 1000)?;
     let mut steps = Steps::new(());
     let status = run(
         rt.alloc(),
@@ -283,5 +313,9 @@ fn other_words_are_told_the_usage(rt: HostRuntime) -> Result<(), Fail> {
         &mut steps,
     );
     assert_eq!(rt; status.number(), 2);
+    assert_eq!(rt;
+        sink.bytes(),
+        b"usage: relayout [--gen N] [--profile 1|2]\n".as_slice()
+    );
     Ok(())
 }

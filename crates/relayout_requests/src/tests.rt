@@ -1,5 +1,5 @@
 //! What lines ask for: each kind of answer once.
-use crate::{Asked, Edit, Load, Refusal, Request, ask};
+use crate::{Asked, Edit, Refusal, Request, ask};
 use port_core::NoMemory;
 use std::alloc::Global;
 use std::process::Abort;
@@ -18,6 +18,17 @@ fn expect_broken(
     Ok(())
 }
 
+/// Whether a load was asked for at 2 by 3 pixels, with two sheets.
+fn is_load_of_two_sheets(asked: &Asked) -> bool {
+    match asked {
+        Asked::Request(Request::Edit(Edit::Load(load))) => {
+            let two = matches!(&load.sheets, Some(texts) if texts.len() == 2);
+            load.width == 2 && load.height == 3 && two
+        }
+        _ => false,
+    }
+}
+
 #[test]
 fn lines_ask(rt: HostRuntime) -> Result<(), Fail> {
     let blank = ask(rt.alloc(), b" \t\r")?;
@@ -27,24 +38,7 @@ fn lines_ask(rt: HostRuntime) -> Result<(), Fail> {
     let line =
         b"{\"do\":\"load\",\"height\":3,\"width\":2,\"doc\":[\"a\"],\"sheets\":[\"p{}\",\"\"]}";
     let load = ask(rt.alloc(), line)?;
-    let Asked::Request(
-        Request::Edit(
-            Edit::Load(
-                Load {
-                    width,
-                    height,
-                    sheets,
-                    ..
-                },
-            ),
-        ),
-    ) = &load
-    else {
-        return Err(Fail::from(NoMemory));
-    };
-    assert_eq!(rt; *width, 2);
-    assert_eq!(rt; *height, 3);
-    assert!(rt; matches!(sheets, Some(texts) if texts.len() == 2));
+    assert!(rt; is_load_of_two_sheets(&load));
     Ok(())
 }
 

@@ -12,10 +12,7 @@ new-requires-clause-nodes c = (IsWithinLimits-accepted c.args.load.width c.args.
 pub new-requires-clause-levels : goal.new-requires-clause-levels
 new-requires-clause-levels c = (IsWithinLimits-accepted c.args.load.width c.args.load.height (shape c.args.load.doc) c.args.load.sheets (c.requires.accepted None)).levels
 
-pub count_nodes-requires : goal.count_nodes-requires
-count_nodes-requires c = (IsWithinLimits-accepted c.args.load.width c.args.load.height (shape c.args.load.doc) c.args.load.sheets (c.requires.accepted None)).nodes
-
-pub invariant_of-t-26 : goal.invariant_of-t-26
-invariant_of-t-26 c =
+pub invariant_of-viewport : goal.invariant_of-viewport
+invariant_of-viewport c =
     let within = IsWithinLimits-accepted c.args.load.width c.args.load.height (shape c.args.load.doc) c.args.load.sheets (c.requires.accepted None) in
     record { narrow = within.narrow; low = within.low }
