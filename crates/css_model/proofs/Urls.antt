@@ -1,0 +1,155 @@
+-- Urls and bad urls, where they stand behind their head.
+use Rattle.std.proofs.Common.{◌≡◌, ◌∙◌, sym, ap, refl, subst, ℕ, ◌==◌, List, [], ◌∷◌, ◌++◌, map, length, drop, Bool, true, false, ◌||◌, append_assoc, eqb-true, inl, inr}
+use Rattle.std.proofs.lemmas.Bool.{cases_Bool, true≢false, false≢true}
+use Rattle.std.proofs.Math.Seq.{drop-append_seam}
+use Rattle.std.specs.Prelude.{codes}
+use Rattle.std.specs.List.{list_all}
+use Rattle.css_model.specs.Classes.{Text, backslash, open_round, close_round, is_newline, is_non_printable, is_white, is_quote, begins, is_empty}
+use Rattle.css_model.specs.Parts.{Part, itself, escaped, coded, joined, cut_off, parts_text, in_url, in_bad_url, IsPart, AreParts}
+use Rattle.css_model.specs.Spellings.{IsEnd}
+use Rattle.css_model.specs.Fronts.{run_in, escape_in, part_in, parts_in, behind_parts}
+use Rattle.css_model.specs.Pieces.{is_close_round}
+use Rattle.css_model.proofs.Tests.{and-left, and-right, or-cases, or-false-left, or-false-right, not-true, not-false, both, pick-false}
+use Rattle.css_model.proofs.Runs.{run_in-is}
+use Rattle.css_model.proofs.PartLemmas.{parts_in-stop}
+use Rattle.css_model.proofs.FirstStrings.{closed_text, closed-is, parts-stopped, parts_text-append, stops-at-end}
+
+-- ---- every url is what a bad url could be
+
+white-plain : (w : ℕ) → is_white w ≡ true → (w == close_round ≡ false) × (w == backslash ≡ false)
+white-plain w h = elim (or-cases (is_newline w) ((w == 9) || (w == 32)) h) [
+  | inl t ↦ subst (λ x. (x == close_round ≡ false) × (x == backslash ≡ false)) (sym (eqb-true w 10 t)) (refl, refl)
+  | inr t ↦ elim (or-cases (w == 9) (w == 32) t) [
+    | inl u ↦ subst (λ x. (x == close_round ≡ false) × (x == backslash ≡ false)) (sym (eqb-true w 9 u)) (refl, refl)
+    | inr u ↦ subst (λ x. (x == close_round ≡ false) × (x == backslash ≡ false)) (sym (eqb-true w 32 u)) (refl, refl)
+  ]
+]
+
+white-parts : (ws behind : Text) → list_all is_white ws ≡ true → AreParts in_bad_url (map itself ws) behind
+white-parts [] behind a = tt
+white-parts (w ∷ ws) behind a =
+    let plain : (w == close_round ≡ false) × (w == backslash ≡ false) = white-plain w (and-left (is_white w) (list_all is_white ws) a) in
+    (not-false (w == close_round) plain.0, plain.1, white-parts ws behind (and-right (is_white w) (list_all is_white ws) a))
+
+white-text : (ws : Text) → parts_text (map itself ws) ≡ ws
+white-text [] = refl
+white-text (w ∷ ws) = ap (λ xs. w ∷ xs) (white-text ws)
+
+url-no_close : (c : ℕ) → in_url (itself c) ≡ true → in_bad_url (itself c) ≡ true
+url-no_close c h =
+    let a : is_quote c || ((c == open_round) || ((c == close_round) || (is_white c || is_non_printable c))) ≡ false = not-true (is_quote c || ((c == open_round) || ((c == close_round) || (is_white c || is_non_printable c)))) h in
+    let b : (c == open_round) || ((c == close_round) || (is_white c || is_non_printable c)) ≡ false = or-false-right (is_quote c) ((c == open_round) || ((c == close_round) || (is_white c || is_non_printable c))) a in
+    let d : (c == close_round) || (is_white c || is_non_printable c) ≡ false = or-false-right (c == open_round) ((c == close_round) || (is_white c || is_non_printable c)) b in
+    not-false (c == close_round) (or-false-left (c == close_round) (is_white c || is_non_printable c) d)
+
+url-no_white : (c : ℕ) → in_url (itself c) ≡ true → is_white c ≡ false
+url-no_white c h =
+    let a : is_quote c || ((c == open_round) || ((c == close_round) || (is_white c || is_non_printable c))) ≡ false = not-true (is_quote c || ((c == open_round) || ((c == close_round) || (is_white c || is_non_printable c)))) h in
+    let b : (c == open_round) || ((c == close_round) || (is_white c || is_non_printable c)) ≡ false = or-false-right (is_quote c) ((c == open_round) || ((c == close_round) || (is_white c || is_non_printable c))) a in
+    let d : (c == close_round) || (is_white c || is_non_printable c) ≡ false = or-false-right (c == open_round) ((c == close_round) || (is_white c || is_non_printable c)) b in
+    or-false-left (is_white c) (is_non_printable c) (or-false-right (c == close_round) (is_white c || is_non_printable c) d)
+
+widened : (parts : List Part) (behind : Text) → AreParts in_url parts behind → AreParts in_bad_url parts behind
+widened [] behind h = tt
+widened (itself c ∷ parts) behind h = (url-no_close c h.0, h.1, widened parts behind h.2)
+widened (escaped c ∷ parts) behind h = (refl, h.1, widened parts behind h.2)
+widened (coded digits blank ∷ parts) behind h = (refl, h.1, widened parts behind h.2)
+widened (joined ∷ parts) behind h = absurd (false≢true h.0)
+widened (cut_off ∷ parts) behind h = (refl, h.1, widened parts behind h.2)
+
+are-append : (allowed : Part → Bool) (xs ys : List Part) (behind : Text) → AreParts allowed xs (parts_text ys ++ behind) → AreParts allowed ys behind → AreParts allowed (xs ++ ys) behind
+are-append allowed [] ys behind h k = k
+are-append allowed (x ∷ xs) ys behind h k =
+    let same : parts_text xs ++ (parts_text ys ++ behind) ≡ parts_text (xs ++ ys) ++ behind =
+    sym (ap (λ cs. cs ++ behind) (parts_text-append xs ys) ∙ append_assoc (parts_text xs) (parts_text ys) behind) in
+    (h.0, subst (IsPart x) same h.1, are-append allowed xs ys behind h.2 k)
+
+bad_url-stop : (xs : Text) → parts_in in_bad_url (close_round ∷ xs) ≡ []
+bad_url-stop xs = parts_in-stop in_bad_url close_round xs refl
+
+-- what stands of a url behind its head is what would stand of a bad url
+pub url-closed : (before after end rest : Text) (parts : List Part) → list_all is_white before ≡ true → AreParts in_url parts (after ++ (end ++ rest)) → list_all is_white after ≡ true → IsEnd (codes ")") end rest
+    → closed_text in_bad_url close_round (before ++ (parts_text parts ++ (after ++ (end ++ rest)))) ≡ before ++ (parts_text parts ++ (after ++ end))
+url-closed before after end rest parts b p a e =
+    let behind : List Part = parts ++ map itself after in
+    let all : List Part = map itself before ++ behind in
+    let behind_text : parts_text behind ≡ parts_text parts ++ after = parts_text-append parts (map itself after) ∙ ap (λ xs. parts_text parts ++ xs) (white-text after) in
+    let all_text : parts_text all ≡ before ++ (parts_text parts ++ after) =
+    parts_text-append (map itself before) behind ∙ (ap (λ xs. xs ++ parts_text behind) (white-text before) ∙ ap (λ xs. before ++ xs) behind_text) in
+    let are : AreParts in_bad_url all (end ++ rest) =
+    are-append in_bad_url (map itself before) behind (end ++ rest) (white-parts before (parts_text behind ++ (end ++ rest)) b)
+    (are-append in_bad_url parts (map itself after) (end ++ rest)
+    (subst (λ xs. AreParts in_bad_url parts (xs ++ (end ++ rest))) (sym (white-text after)) (widened parts (after ++ (end ++ rest)) p))
+    (white-parts after (end ++ rest) a)) in
+    let joined_text : (xs : Text) → parts_text all ++ xs ≡ before ++ (parts_text parts ++ (after ++ xs)) =
+    λ xs. ap (λ cs. cs ++ xs) all_text ∙ (append_assoc before (parts_text parts ++ after) xs ∙ ap (λ cs. before ++ cs) (append_assoc (parts_text parts) after xs)) in
+    ap (closed_text in_bad_url close_round) (sym (joined_text (end ++ rest)))
+    ∙ (closed-is in_bad_url close_round bad_url-stop all end rest are e ∙ joined_text end)
+
+pub bad_url-closed : (end rest : Text) (parts : List Part) → AreParts in_bad_url parts (end ++ rest) → IsEnd (codes ")") end rest
+    → closed_text in_bad_url close_round (parts_text parts ++ (end ++ rest)) ≡ parts_text parts ++ end
+bad_url-closed end rest parts p e = closed-is in_bad_url close_round bad_url-stop parts end rest p e
+
+-- ---- what is a url by the computation
+
+abbrev pub after_white : Text → Text
+after_white cs = drop (length (run_in is_white cs)) cs
+
+abbrev pub after_parts : Text → Text
+after_parts cs = behind_parts (parts_in in_url cs) cs
+
+abbrev pub is_closed : Text → Bool
+is_closed cs = is_empty cs || begins is_close_round cs
+
+after_white-is : (ws cs : Text) → list_all is_white ws ≡ true → begins is_white cs ≡ false → after_white (ws ++ cs) ≡ cs
+after_white-is ws cs a b = ap (λ xs. drop (length xs) (ws ++ cs)) (run_in-is is_white ws cs a b) ∙ drop-append_seam ws cs
+
+after_parts-is : (parts : List Part) (cs : Text) → AreParts in_url parts cs → parts_in in_url cs ≡ [] → after_parts (parts_text parts ++ cs) ≡ cs
+after_parts-is parts cs p none = ap (λ ps. behind_parts ps (parts_text parts ++ cs)) (parts-stopped in_url parts cs p none) ∙ drop-append_seam (parts_text parts) cs
+
+end-no_white : (end rest : Text) → IsEnd (codes ")") end rest → begins is_white (end ++ rest) ≡ false
+end-no_white end rest (inl e) = ap (λ xs. begins is_white (xs ++ rest)) e
+end-no_white end rest (inr e) = ap (λ xs. begins is_white (xs ++ rest)) e.0 ∙ ap (begins is_white) e.1
+
+end-closed : (end rest : Text) → IsEnd (codes ")") end rest → is_closed (end ++ rest) ≡ true
+end-closed end rest (inl e) = ap (λ xs. is_closed (xs ++ rest)) e
+end-closed end rest (inr e) = ap (λ xs. is_closed (xs ++ rest)) e.0 ∙ ap is_closed e.1
+
+url-stop : (xs : Text) → parts_in in_url (close_round ∷ xs) ≡ []
+url-stop xs = parts_in-stop in_url close_round xs refl
+
+white-stop : (after cs : Text) → list_all is_white after ≡ true → parts_in in_url cs ≡ [] → parts_in in_url (after ++ cs) ≡ []
+white-stop [] cs a none = none
+white-stop (w ∷ after) cs a none =
+    let white : is_white w ≡ true = and-left (is_white w) (list_all is_white after) a in
+    let part : part_in w (after ++ cs) ≡ itself w = pick-false (w == backslash) (escape_in (after ++ cs)) (itself w) ((white-plain w white).1) in
+    let no : in_url (itself w) ≡ false = elim (cases_Bool (in_url (itself w))) [ inl t ↦ absurd (true≢false (sym white ∙ url-no_white w t)) | inr f ↦ f ] in
+    parts_in-stop in_url w (after ++ cs) (ap in_url part ∙ no)
+
+parts-no_white : (p : Part) (parts : List Part) (cs : Text) → AreParts in_url (p ∷ parts) cs → begins is_white (parts_text (p ∷ parts) ++ cs) ≡ false
+parts-no_white (itself c) parts cs h = url-no_white c h.0
+parts-no_white (escaped c) parts cs h = refl
+parts-no_white (coded digits blank) parts cs h = refl
+parts-no_white joined parts cs h = refl
+parts-no_white cut_off parts cs h = refl
+
+list_all-both : (xs ys : Text) → list_all is_white xs ≡ true → list_all is_white ys ≡ true → list_all is_white (xs ++ ys) ≡ true
+list_all-both [] ys a b = b
+list_all-both (x ∷ xs) ys a b = both (is_white x) (list_all is_white (xs ++ ys)) (and-left (is_white x) (list_all is_white xs) a) (list_all-both xs ys (and-right (is_white x) (list_all is_white xs) a) b)
+
+-- a url of the definition is one by the computation
+pub url-computed : (before after end rest : Text) (parts : List Part) → list_all is_white before ≡ true → AreParts in_url parts (after ++ (end ++ rest)) → list_all is_white after ≡ true → IsEnd (codes ")") end rest
+    → is_closed (after_white (after_parts (after_white (before ++ (parts_text parts ++ (after ++ (end ++ rest))))))) ≡ true
+url-computed before after end rest [] b p a e =
+    let cs : Text = end ++ rest in
+    let none : parts_in in_url cs ≡ [] = stops-at-end in_url close_round url-stop end rest e in
+    let first : after_white (before ++ (after ++ cs)) ≡ cs = ap after_white (sym (append_assoc before after cs)) ∙ after_white-is (before ++ after) cs (list_all-both before after b a) (end-no_white end rest e) in
+    ap (λ xs. is_closed (after_white (after_parts xs))) first
+    ∙ (ap (λ xs. is_closed (after_white xs)) (after_parts-is [] cs tt none)
+    ∙ (ap is_closed (after_white-is [] cs refl (end-no_white end rest e)) ∙ end-closed end rest e))
+url-computed before after end rest (q ∷ parts) b p a e =
+    let cs : Text = end ++ rest in
+    let none : parts_in in_url (after ++ cs) ≡ [] = white-stop after cs a (stops-at-end in_url close_round url-stop end rest e) in
+    ap (λ xs. is_closed (after_white (after_parts xs))) (after_white-is before (parts_text (q ∷ parts) ++ (after ++ cs)) b (parts-no_white q parts (after ++ cs) p))
+    ∙ (ap (λ xs. is_closed (after_white xs)) (after_parts-is (q ∷ parts) (after ++ cs) p none)
+    ∙ (ap is_closed (after_white-is after cs a (end-no_white end rest e)) ∙ end-closed end rest e))

@@ -1,0 +1,106 @@
+-- The classes of characters (CSS Syntax 3, section 4.2).
+use Rattle.std.specs.Prelude.{ℕ, ◌==◌, ◌||◌, ◌&&◌, nat_le, List, [], ◌∷◌, Bool, true, false}
+
+-- a text: its characters, each the number of a code point
+abbrev pub Text : Type 0
+Text = List ℕ
+
+-- ---- characters with a name
+
+abbrev pub tab : ℕ
+tab = 9
+
+abbrev pub newline : ℕ
+newline = 10
+
+abbrev pub space : ℕ
+space = 32
+
+abbrev pub double_quote : ℕ
+double_quote = 34
+
+abbrev pub single_quote : ℕ
+single_quote = 39
+
+abbrev pub open_round : ℕ
+open_round = 40
+
+abbrev pub close_round : ℕ
+close_round = 41
+
+abbrev pub plus : ℕ
+plus = 43
+
+abbrev pub hyphen : ℕ
+hyphen = 45
+
+abbrev pub full_stop : ℕ
+full_stop = 46
+
+abbrev pub backslash : ℕ
+backslash = 92
+
+abbrev pub underscore : ℕ
+underscore = 95
+
+-- U+FFFD, which stands where a character cannot
+abbrev pub replacement : ℕ
+replacement = 65533
+
+-- ---- classes
+
+abbrev pub is_between : ℕ → ℕ → ℕ → Bool
+is_between low high c = nat_le low c && nat_le c high
+
+-- a digit: 0 to 9
+abbrev pub is_digit : ℕ → Bool
+is_digit c = is_between 48 57 c
+
+-- a hex digit: a digit, A to F or a to f
+abbrev pub is_hex_digit : ℕ → Bool
+is_hex_digit c = is_digit c || (is_between 65 70 c || is_between 97 102 c)
+
+-- a letter: A to Z or a to z
+abbrev pub is_letter : ℕ → Bool
+is_letter c = is_between 65 90 c || is_between 97 122 c
+
+-- an ident-start code point: a letter, what is not ASCII, or `_`
+abbrev pub is_name_start : ℕ → Bool
+is_name_start c = is_letter c || (nat_le 128 c || (c == underscore))
+
+-- an ident code point: an ident-start code point, a digit or `-`
+abbrev pub is_name_char : ℕ → Bool
+is_name_char c = is_name_start c || (is_digit c || (c == hyphen))
+
+-- a non-printable code point: U+0000 to U+0008, U+000B, U+000E to U+001F, or U+007F
+abbrev pub is_non_printable : ℕ → Bool
+is_non_printable c = nat_le c 8 || ((c == 11) || (is_between 14 31 c || (c == 127)))
+
+abbrev pub is_newline : ℕ → Bool
+is_newline c = c == newline
+
+-- white space: a newline, a tab or a space
+abbrev pub is_white : ℕ → Bool
+is_white c = is_newline c || ((c == tab) || (c == space))
+
+abbrev pub is_quote : ℕ → Bool
+is_quote c = (c == double_quote) || (c == single_quote)
+
+-- a sign: `+` or `-`
+abbrev pub is_sign : ℕ → Bool
+is_sign c = (c == plus) || (c == hyphen)
+
+-- the letter before an exponent
+abbrev pub is_e : ℕ → Bool
+is_e c = (c == 69) || (c == 101)
+
+-- ---- the front of a text
+
+-- the first character is of this class
+abbrev pub begins : (ℕ → Bool) → Text → Bool
+begins test [] = false
+begins test (c ∷ cs) = test c
+
+abbrev pub is_empty : Text → Bool
+is_empty [] = true
+is_empty (c ∷ cs) = false

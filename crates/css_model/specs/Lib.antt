@@ -1,0 +1,10 @@
+pub mod Classes
+pub mod Preprocessing
+pub mod Tokens
+pub mod Parts
+pub mod Numerals
+pub mod Spellings
+pub mod TokenList
+pub mod Components
+pub mod Fronts
+pub mod Pieces

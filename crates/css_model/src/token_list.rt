@@ -1,0 +1,9 @@
+ghost use Rattle.css_model.specs.Classes.{Text};
+ghost use Rattle.css_model.specs.Pieces.{tokens};
+ghost use Rattle.css_model.specs.TokenList.{IsTokenList};
+
+/// The tokens that are computed of a text are a token list of it by the definition, so each text
+/// has one.
+pub fn computed_tokens_are_a_token_list()
+    ensures { (text : Text) → IsTokenList text (tokens text) }
+{}
