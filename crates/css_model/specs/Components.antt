@@ -71,7 +71,7 @@ pub record IsComponents (tokens : List Token) (components : Components) : Type 0
   pub joined : all_tokens_of components ≡ tokens
   pub nested : AreNested None components []
 
--- how many brackets and functions are open around the deepest token inside one
+-- how deep brackets and functions nest; an empty one counts
 abbrev mutual
   pub depth : Component → ℕ
   depth (one t) = 0

@@ -32,7 +32,7 @@ abbrev pub is_at_most_one : (ℕ → Bool) → Text → Bool
 is_at_most_one test [] = true
 is_at_most_one test (c ∷ cs) = test c && is_empty cs
 
--- an exponent is `e` or `E`, perhaps a sign, and digits; there need be none
+-- an exponent is `e` or `E`, perhaps a sign, and digits, or nothing at all
 abbrev pub is_exponent : Text → Text → Text → Bool
 is_exponent [] sign digits = is_empty sign && is_empty digits
 is_exponent (c ∷ cs) sign digits = is_e c && (is_empty cs && (is_at_most_one is_sign sign && (list_all is_digit digits && not (is_empty digits))))
@@ -45,11 +45,12 @@ pub record IsNumeral (w : Numeral) : Type 0 where
   pub some_digit : is_empty w.whole && is_empty w.fraction ≡ false
   pub exponent : is_exponent w.mark w.exponent_sign w.exponent ≡ true
 
--- an `e` or `E`, perhaps a sign, and a digit stand in front: they would be a number's exponent
+-- perhaps a sign, and a digit stand in front
 abbrev pub begins_signed_digit : Text → Bool
 begins_signed_digit [] = false
 begins_signed_digit (c ∷ cs) = is_digit c || (is_sign c && begins is_digit cs)
 
+-- an `e` or `E`, perhaps a sign, and a digit stand in front: they would be a number's exponent
 abbrev pub begins_exponent : Text → Bool
 begins_exponent [] = false
 begins_exponent (c ∷ cs) = is_e c && begins_signed_digit cs

@@ -1,4 +1,4 @@
--- The pieces and the tokens of a text, computed in the way of the standard's algorithm (CSS Syntax 3, section 4.3); that they are those of the definition is a law about them.
+-- The pieces and the tokens of a text, computed in the way of the standard's algorithm (CSS Syntax 3, section 4.3); that they are those of the definition is a law about them. The meaning is in TokenList, and contracts cite that; this is one way to find it.
 use Rattle.std.specs.Prelude.{ℕ, zero, suc, pred, ◌==◌, ◌&&◌, ◌||◌, not, List, [], ◌∷◌, ◌++◌, length, drop, flat_map, codes, Bool, true, false, if◌then◌else◌}
 use Rattle.css_model.specs.Classes.{Text, open_round, close_round, is_white, is_quote, begins, is_empty}
 use Rattle.css_model.specs.Preprocessing.{preprocessed}

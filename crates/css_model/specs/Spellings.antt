@@ -43,7 +43,7 @@ IsEnd mark end rest = (end ≡ mark) ⊎ ((end ≡ []) × (rest ≡ []))
 
 -- ---- strings (4.3.5)
 
--- a quote, characters and escapes, and the quote again
+-- a quote, characters and escapes, and the quote again or the end of the text
 pub record IsString (value s rest : Text) : Type 0 where
   pub quote : ℕ
   pub parts : List Part
@@ -90,7 +90,7 @@ pub record IsUrlHead (s rest : Text) : Type 0 where
   pub url_name : is_url_name name ≡ true
   pub no_quote : quote_follows rest ≡ false
 
--- the head, characters and escapes with white space around them, and `)`
+-- the head, characters and escapes with white space around them, and `)` or the end of the text
 pub record IsUrl (value s rest : Text) : Type 0 where
   pub head : Text
   pub before : Text

@@ -13,7 +13,7 @@ pub data Bracket : Type 0 where
   square : Bracket
   curly : Bracket
 
--- the class of a token, with its value; names and strings are meant after escapes, without quotes, `(`, `@` and `#`
+-- the class of a token, with its value; names and strings are meant after escapes, without quotes, `(`, `@` and `#`; a hash is an id where its name is an identifier, and a delimiter is any other character
 pub data Kind : Type 0 where
   ident : (name : Text) → Kind
   function : (name : Text) → Kind
