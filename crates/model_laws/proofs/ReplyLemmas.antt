@@ -1,15 +1,17 @@
--- A script has one text of replies.
-use Rattle.std.proofs.Common.{◌≡◌, ◌∙◌, sym, ap, ap₂, subst, ℕ, List, [], ◌∷◌, ◌++◌, Bool, true, false, Some, None}
+-- A script has one text of replies: there are not two, and there is one.
+use Rattle.std.proofs.Common.{◌≡◌, ◌∙◌, sym, ap, ap₂, refl, subst, ℕ, List, [], ◌∷◌, ◌++◌, Bool, true, false, Option, Some, None}
 use Rattle.std.specs.Prelude.{pos}
 use Rattle.stream_model.specs.Ledger.{Log}
 use Rattle.page_model.specs.Pages.{State}
-use Rattle.request_model.specs.Requests.{edit, dump, asked}
-use Rattle.request_model.specs.States.{Answer, silent, refused, accepted, answer, asks_edit}
+use Rattle.request_model.specs.Refusals.{Refusal}
+use Rattle.request_model.specs.Requests.{Request, edit, dump, Asked, nothing, broken, request, asked}
+use Rattle.request_model.specs.States.{Answer, silent, refused, accepted, answer, judged, settled, refusal_of, given, next, asks_edit}
 use Rattle.layout_model.specs.Setting.{Setting}
 use Rattle.layout_model.specs.Boxes.{units_of_pixels}
-use Rattle.reply_model.specs.Spelling.{ok_line}
-use Rattle.reply_model.specs.Replies.{Course, Step, Spells, IsDump, IsReply, Moves, AreLogsOf, AreReplies}
-use Rattle.model_laws.proofs.BoxLemmas.{agree, box_lines-agree}
+use Rattle.reply_model.specs.Spelling.{ok_line, ok_nodes_line, error_line}
+use Rattle.reply_model.specs.DumpText.{dump_text}
+use Rattle.reply_model.specs.Replies.{Course, Step, Spells, IsDump, IsReply, Moves, AreLogsOf, AreReplies, latest}
+use Rattle.model_laws.proofs.BoxLemmas.{agree, box_lines-agree, flat, holds-flat}
 
 dump-one : (setting : Setting) (s : State) (x y : List ℕ) → IsDump setting s x → IsDump setting s y → x ≡ y
 dump-one setting None x y p q = absurd p
@@ -51,3 +53,64 @@ replies-one setting (line ∷ lines) from logs logs' text text' p q =
     let rest : (s.others ≡ t.others) × (s.later ≡ t.later) =
     replies-one setting lines t.to s.later t.later s.others t.others (subst (λ (c : Course). AreReplies setting c lines s.later s.others) to p.1) q.1 in
     (s.text_is ∙ (ap₂ (λ (x y : List ℕ). x ++ y) reply rest.0 ∙ sym t.text_is), s.logs_are ∙ (ap₂ (λ (x y : List Log). x ++ y) own rest.1 ∙ sym t.logs_are))
+
+-- ---- each script has replies
+
+some-dump : (setting : Setting) (s : State) → refusal_of s dump ≡ None → (reply : List ℕ) × IsDump setting s reply
+unfolding refusal_of
+some-dump setting None e = absurd (cc)
+some-dump setting (Some page) e = (
+  dump_text page.document.root (λ _. flat (units_of_pixels page.viewport.width)) ++ ok_line,
+  ((λ _. flat (units_of_pixels page.viewport.width)), holds-flat (units_of_pixels page.viewport.width) page.document.root, refl),
+)
+
+some-settled : (setting : Setting) (at : Course) (q : Request) (o : Option Refusal) → refusal_of at.state q ≡ o → (reply : List ℕ) × Spells setting at (settled q o) reply
+some-settled setting at q (Some r) e = (error_line r, refl)
+some-settled setting at (edit change) None e = (ok_nodes_line (given at.state change).0 (given at.state change).1, refl)
+some-settled setting at dump None e = some-dump setting at.state e
+
+some-spelled : (setting : Setting) (at : Course) (a : Asked) → (reply : List ℕ) × Spells setting at (judged at.state a) reply
+some-spelled setting at nothing = ([], refl)
+some-spelled setting at (broken r) = (error_line r, refl)
+some-spelled setting at (request q) = some-settled setting at q (refusal_of at.state q) refl
+
+some-reply : (setting : Setting) (at : Course) (line : List ℕ) → (reply : List ℕ) × IsReply setting at line reply
+unfolding IsReply answer
+some-reply setting at line = some-spelled setting at (asked line)
+
+some-logs : (b : Bool) → (own : List Log) × AreLogsOf b own
+some-logs true = ([] ∷ [], refl)
+some-logs false = ([], refl)
+
+some-move : (setting : Setting) (from : Course) (line : List ℕ) → (own : List Log) × ((to : Course) × Moves setting from line own to)
+unfolding Moves
+some-move setting from line =
+    let own = some-logs (asks_edit (asked line)) in
+    (own.0, (record { state = next from.state line; last = latest (answer from.state line) own.0 from.last }, (own.1, refl)))
+
+pub some-replies : (setting : Setting) (lines : List (List ℕ)) (from : Course) → (logs : List Log) × ((text : List ℕ) × AreReplies setting from lines logs text)
+unfolding AreReplies
+some-replies setting [] from = ([], ([], (refl, refl)))
+some-replies setting (line ∷ lines) from =
+    let move = some-move setting from line in
+    let reply = some-reply setting from line in
+    let rest = some-replies setting lines move.1.0 in (
+      move.0 ++ rest.0,
+      (
+        reply.0 ++ rest.1.0,
+        (
+          record {
+            own = move.0;
+            later = rest.0;
+            reply = reply.0;
+            others = rest.1.0;
+            to = move.1.0;
+            logs_are = refl;
+            text_is = refl;
+            moved = move.1.1;
+            replied = reply.1;
+          },
+          rest.1.1,
+        ),
+      ),
+    )

@@ -9,4 +9,4 @@ mod replies;
 pub use boxes::{one_assignment, some_assignment};
 pub use documents::numbers_count_up;
 pub use lines::{lines_are_cut_at_newlines, one_way_to_cut};
-pub use replies::one_text;
+pub use replies::{one_text, some_text};

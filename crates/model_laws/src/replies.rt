@@ -7,3 +7,8 @@ ghost use Rattle.reply_model.specs.Replies.{Replies};
 pub fn one_text()
     ensures { (setting : Setting) (lines : List (List ℕ)) (logs logs' : List Log) (text text' : List ℕ) → Replies setting lines logs text → Replies setting lines logs' text' → (text ≡ text') × (logs ≡ logs') }
 {}
+
+/// Each script has a text of replies.
+pub fn some_text()
+    ensures { (setting : Setting) (lines : List (List ℕ)) → (logs : List Log) × ((text : List ℕ) × Replies setting lines logs text) }
+{}
