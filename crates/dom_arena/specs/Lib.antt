@@ -1,4 +1,5 @@
 pub mod Shape
+pub mod Faults
 pub mod Table
 pub mod Rows
 pub mod Children

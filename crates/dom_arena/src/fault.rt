@@ -5,11 +5,32 @@ use port_core::NoMemory;
 use thiserror::Error;
 
 /// Why a document could not be made or changed.
-#[derive(Debug, Drop, PartialEq, Eq, Error)]
+#[derive(Clone, Copy, Debug, Drop, PartialEq, Eq, Error)]
 pub enum DocFault {
     /// There is not enough memory.
     #[error("not enough memory")]
     NoMemory,
+    /// There is no node of this number.
+    #[error("there is no such node")]
+    NoNode,
+    /// The node is a text.
+    #[error("the node is no element")]
+    NotElement,
+    /// The node is the root.
+    #[error("the node is the root")]
+    IsRoot,
+    /// The parent has fewer children.
+    #[error("the index is greater than the number of children")]
+    BadIndex,
+    /// There would be more than 20,000 nodes.
+    #[error("there would be too many nodes")]
+    NodeLimit,
+    /// A node would stand deeper than 96.
+    #[error("a node would stand too deep")]
+    DepthLimit,
+    /// More than 100,000 numbers would be given since the document was loaded.
+    #[error("too many numbers would be given")]
+    IdLimit,
 }
 
 impl From<NoMemory> for DocFault {

@@ -3,7 +3,7 @@ use Rattle.std.proofs.Common.{◌≡◌, ◌∙◌, sym, ap, ap₂, refl, subst,
 use Rattle.std.specs.Prelude.{pos}
 use Rattle.stream_model.specs.Ledger.{Log}
 use Rattle.page_model.specs.Pages.{State}
-use Rattle.request_model.specs.Refusals.{Refusal}
+use Rattle.page_model.specs.Refusals.{Refusal}
 use Rattle.request_model.specs.Requests.{Request, edit, dump, Asked, nothing, broken, request, asked}
 use Rattle.request_model.specs.States.{Answer, silent, refused, accepted, answer, judged, settled, refusal_of, given, next, asks_edit}
 use Rattle.layout_model.specs.Setting.{Setting}

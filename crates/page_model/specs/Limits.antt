@@ -12,3 +12,7 @@ max_nodes = 20000
 -- the depth of a node, where the root stands at 1
 abbrev pub max_depth : ℕ
 max_depth = 96
+
+-- numbers that are given since a load
+abbrev pub max_ids : ℕ
+max_ids = 100000

@@ -3,9 +3,9 @@ use Rattle.std.proofs.Common.{◌≡◌, ◌≤◌, refl, ℕ, List, [], ◌∷�
 use Rattle.std.proofs.lemmas.Bool.{ltb-false, or_parts}
 use Rattle.page_model.specs.Trees.{Text, Tree, elem, characters, is_elem, size, depth}
 use Rattle.page_model.specs.Limits.{max_side, max_nodes, max_depth}
-use Rattle.request_model.specs.Refusals.{Refusal, not_built}
+use Rattle.page_model.specs.Refusals.{Refusal, not_built, first_of}
 use Rattle.request_model.specs.Requests.{load, edit}
-use Rattle.request_model.specs.States.{first_of, refusal_of, is_plain}
+use Rattle.request_model.specs.States.{refusal_of, is_plain}
 
 pub record IsWithinLimits (width height : ℕ) (doc : Tree) : Type 0 where
   pub narrow : width ≤ max_side

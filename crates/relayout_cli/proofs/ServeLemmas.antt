@@ -6,7 +6,7 @@ use Rattle.stream_model.specs.Streams.{FromTo, Appends, AppendsPart, Grew, Takes
 use Rattle.stream_model.specs.Lines.{lines, max_line}
 use Rattle.stream_model.specs.Ledger.{Event, Log, pairs, events, mark}
 use Rattle.page_model.specs.Pages.{State}
-use Rattle.request_model.specs.Refusals.{line_too_long}
+use Rattle.page_model.specs.Refusals.{line_too_long}
 use Rattle.request_model.specs.Requests.{Asked, broken, asked}
 use Rattle.request_model.specs.States.{answer, judged, left_by, next, asks_edit}
 use Rattle.reply_model.specs.Replies.{Course, start, AreReplies, Replies, IsReply, Moves, AreLogsOf, latest}

@@ -1,5 +1,5 @@
 -- What the program's own types stand for in the definitions.
-use Rattle.request_model.specs.Refusals as model
+use Rattle.page_model.specs.Refusals as model
 use Rattle.request_model.specs.Requests as model_of
 use Rattle.dom_arena.specs.Shape.{shape}
 use Rattle.relayout_requests.specs.declared.refusal.Refusal.{Refusal}

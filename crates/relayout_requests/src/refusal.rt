@@ -24,7 +24,7 @@ pub enum Refusal {
 
 impl Refusal {
     ghost use Rattle.relayout_requests.specs.Views.{refusal_view};
-    ghost use Rattle.request_model.specs.Refusals.{refusal_number, refusal_name};
+    ghost use Rattle.page_model.specs.Refusals.{refusal_number, refusal_name};
 
     /// The number by which replies name it.
     pub fn number(self) -> u8

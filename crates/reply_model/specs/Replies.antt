@@ -1,5 +1,5 @@
 -- The reply to a line, and the replies to a script.
-use Rattle.std.specs.Prelude.{◌≡◌, ℕ, List, [], ◌∷◌, ◌++◌, Bool, true, false, Some, None}
+use Rattle.std.specs.Prelude.{◌≡◌, ℕ, List, [], ◌∷◌, ◌++◌, Bool, true, false, Option, Some, None}
 use Rattle.stream_model.specs.Ledger.{Log}
 use Rattle.page_model.specs.Pages.{State}
 use Rattle.request_model.specs.Requests.{Request, edit, dump, asked}
@@ -25,9 +25,14 @@ abbrev pub IsDump : Setting → State → List ℕ → Type 0
 IsDump setting None reply = ⊥
 IsDump setting (Some page) reply = (a : Assignment) × Consistent setting page a × (reply ≡ dump_text page.document.root a ++ ok_line)
 
+-- the reply to an edit: the first new number and how many nodes are new, if it brought a tree
+abbrev pub given_line : Option (ℕ × ℕ) → List ℕ
+given_line None = ok_line
+given_line (Some g) = ok_nodes_line g.0 g.1
+
 -- this is the reply to a request that is carried out
 abbrev pub IsOkReply : Setting → Course → Request → List ℕ → Type 0
-IsOkReply setting at (edit e) reply = reply ≡ ok_nodes_line (given at.state e).0 (given at.state e).1
+IsOkReply setting at (edit e) reply = reply ≡ given_line (given at.state e)
 IsOkReply setting at dump reply = IsDump setting at.state reply
 
 -- this is how an answer is spelled

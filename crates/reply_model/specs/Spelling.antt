@@ -1,7 +1,7 @@
 -- How the parts of a reply are spelled.
 use Rattle.std.specs.Prelude.{ℕ, List, [], ◌∷◌, ◌++◌, codes}
 use Rattle.std.specs.Fmt.{decimal}
-use Rattle.request_model.specs.Refusals.{Refusal, refusal_number, refusal_name}
+use Rattle.page_model.specs.Refusals.{Refusal, refusal_number, refusal_name}
 
 -- a reply's line ends with a newline
 abbrev pub end_line : List ℕ

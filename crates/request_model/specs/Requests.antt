@@ -7,12 +7,14 @@ use Rattle.serde_json.specs.Read.{read}
 use Rattle.serde_json.specs.Find.{get, as_number, as_u64, as_str, as_array, as_object}
 use Rattle.stream_model.specs.Lines.{is_blank, is_too_long}
 use Rattle.page_model.specs.Trees.{Text, Tree}
-use Rattle.page_model.specs.Jsonml.{doc_of}
-use Rattle.request_model.specs.Refusals.{Refusal, bad_json, bad_request, line_too_long, not_built}
+use Rattle.page_model.specs.Jsonml.{doc_of, tree_of}
+use Rattle.page_model.specs.Refusals.{Refusal, bad_json, bad_request, line_too_long, not_built}
 
 -- a request that may change what is loaded
 pub data Edit : Type 0 where
   load : (width height : ℕ) (doc : Tree) (sheets : Option (List Text)) → Edit
+  insert : (parent index : ℕ) (new : Tree) → Edit
+  remove : (id : ℕ) → Edit
 
 pub data Request : Type 0 where
   edit : Edit → Request
@@ -39,6 +41,10 @@ string_at key d = option_and_then as_str (get key d)
 -- an element in JsonML
 abbrev pub doc_at : List ℕ → Data → Option Tree
 doc_at key d = option_and_then doc_of (get key d)
+
+-- an element or a text in JsonML
+abbrev pub tree_at : List ℕ → Data → Option Tree
+tree_at key d = option_and_then tree_of (get key d)
 
 abbrev pub text_and : Data → Option (List Text) → Option (List Text)
 text_and (string s) texts = option_map (λ rest. chars s ∷ rest) texts
@@ -80,12 +86,32 @@ load_from members (Some width) (Some height) (Some doc) None = None
 unfoldable pub load_of : Data → Option Request
 load_of d = load_from (members d) (number_at (codes "width") d) (number_at (codes "height") d) (doc_at (codes "doc") d) (texts_at (codes "sheets") d)
 
+-- an insert of its parts, where the object has no member besides
+abbrev pub insert_from : ℕ → Option ℕ → Option ℕ → Option Tree → Option Request
+insert_from members (Some parent) (Some index) (Some new) = if members == 4 then Some (edit (insert parent index new)) else None
+insert_from members None index new = None
+insert_from members (Some parent) None new = None
+insert_from members (Some parent) (Some index) None = None
+
+unfoldable pub insert_of : Data → Option Request
+insert_of d = insert_from (members d) (number_at (codes "parent") d) (number_at (codes "index") d) (tree_at (codes "tree") d)
+
+-- the same of a remove
+abbrev pub remove_from : ℕ → Option ℕ → Option Request
+remove_from members (Some id) = if members == 2 then Some (edit (remove id)) else None
+remove_from members None = None
+
+unfoldable pub remove_of : Data → Option Request
+remove_of d = remove_from (members d) (number_at (codes "id") d)
+
 unfoldable pub dump_of : Data → Option Request
 dump_of d = if members d == 1 then Some dump else None
 
 -- the request that an object is whose `do` has this value: one with exactly the members of that request
 abbrev pub request_named : List ℕ → Data → Option Request
-request_named name d = if bytes_eq name (codes "load") then load_of d else (if bytes_eq name (codes "dump") then dump_of d else None)
+request_named name d =
+    if bytes_eq name (codes "load") then load_of d else (if bytes_eq name (codes "insert") then insert_of d
+    else (if bytes_eq name (codes "remove") then remove_of d else (if bytes_eq name (codes "dump") then dump_of d else None)))
 
 -- the value of the member `do` of an object
 unfoldable pub do_of : Data → Option (List ℕ)
@@ -98,7 +124,7 @@ request_of d = option_and_then (λ name. request_named name d) (do_of d)
 -- the names of the requests that are not built yet
 abbrev pub names_not_built : List (List ℕ)
 names_not_built =
-    codes "insert" ∷ codes "remove" ∷ codes "sheet" ∷ codes "rules" ∷ codes "match" ∷ codes "style"
+    codes "sheet" ∷ codes "rules" ∷ codes "match" ∷ codes "style"
     ∷ codes "resize" ∷ codes "move" ∷ codes "set-attr" ∷ codes "drop-attr" ∷ codes "set-text" ∷ codes "counts" ∷ []
 
 abbrev pub is_one_of : List ℕ → List (List ℕ) → Bool

@@ -1,12 +1,13 @@
 -- Which requests are refused, and the state that a line leaves.
-use Rattle.std.specs.Prelude.{ℕ, ◌&&◌, ◌||◌, List, [], ◌∷◌, Bool, true, false, not, if◌then◌else◌, nat_lt, Option, Some, None, is_some, is_none, unwrap_or, codes}
+use Rattle.std.specs.Prelude.{ℕ, ◌&&◌, ◌||◌, List, [], ◌∷◌, Bool, true, false, not, nat_lt, Option, Some, None, is_some, is_none, option_map, unwrap_or, codes}
 use Rattle.std.specs.Str.{bytes_eq}
-use Rattle.page_model.specs.Trees.{Tree, elem, characters, Trees, no_trees, tree, size, depth}
-use Rattle.page_model.specs.Document.{document}
-use Rattle.page_model.specs.Limits.{max_side, max_nodes, max_depth}
-use Rattle.page_model.specs.Pages.{State}
-use Rattle.request_model.specs.Refusals.{Refusal, not_loaded, not_built}
-use Rattle.request_model.specs.Requests.{Edit, load, Request, edit, dump, Asked, nothing, broken, request, asked}
+use Rattle.page_model.specs.Trees.{Tree, elem, characters, Trees, no_trees, tree, size}
+use Rattle.page_model.specs.Document.{Document, document}
+use Rattle.page_model.specs.Limits.{max_side}
+use Rattle.page_model.specs.Refusals.{Refusal, not_loaded, viewport_range, not_built, Causes, first_of}
+use Rattle.page_model.specs.Edits.{load_refusals, insert_refusals, remove_refusals, after_insert, after_remove}
+use Rattle.page_model.specs.Pages.{Page, State}
+use Rattle.request_model.specs.Requests.{Edit, load, insert, remove, Request, edit, dump, Asked, nothing, broken, request, asked}
 
 -- ---- refusals
 
@@ -24,21 +25,26 @@ abbrev mutual
   are_plain no_trees = true
   are_plain (tree t ts) = is_plain t && are_plain ts
 
--- why a request is refused, in the order in which this is asked, each with whether it holds
-abbrev pub refusals : State → Request → List (Bool × Refusal)
-refusals s (edit (load width height doc sheets)) =
-    (nat_lt max_side width || nat_lt max_side height, not_built)
-    ∷ (is_some sheets, not_built)
-    ∷ (not (is_plain doc), not_built)
-    ∷ (nat_lt max_depth (depth doc), not_built)
-    ∷ (nat_lt max_nodes (size doc), not_built)
-    ∷ []
-refusals s dump = (is_none s, not_loaded) ∷ []
+-- what is said of a page, if one is loaded
+abbrev pub of_page : State → (Page → Causes) → Causes
+of_page None causes = []
+of_page (Some page) causes = causes page
 
--- the first that holds
-abbrev pub first_of : List (Bool × Refusal) → Option Refusal
-first_of [] = None
-first_of (r ∷ rs) = if r.0 then Some r.1 else first_of rs
+-- why a request is refused, in the order in which this is asked
+abbrev pub refusals : State → Request → Causes
+refusals s (edit (load width height doc sheets)) =
+    (is_some sheets, not_built)
+    ∷ (not (is_plain doc), not_built)
+    ∷ (nat_lt max_side width || nat_lt max_side height, viewport_range)
+    ∷ load_refusals doc
+refusals s (edit (insert parent index new)) =
+    (not (is_plain new), not_built)
+    ∷ (is_none s, not_loaded)
+    ∷ of_page s (λ page. insert_refusals parent index new page.document)
+refusals s (edit (remove id)) =
+    (is_none s, not_loaded)
+    ∷ of_page s (λ page. remove_refusals id page.document)
+refusals s dump = (is_none s, not_loaded) ∷ []
 
 -- why a request is refused, if it is
 unfoldable pub refusal_of : State → Request → Option Refusal
@@ -46,14 +52,27 @@ refusal_of s q = first_of (refusals s q)
 
 -- ---- edits
 
+-- the same sheets and viewport, with another document
+abbrev pub with_document : (Document → Document) → Page → Page
+with_document change page = record { document = change page.document; sheets = page.sheets; viewport = page.viewport }
+
 -- what is loaded after an edit that is not refused
 abbrev pub edited : State → Edit → State
 edited s (load width height doc sheets) =
     Some (record { document = document doc; sheets = unwrap_or sheets []; viewport = record { width = width; height = height } })
+edited s (insert parent index new) = option_map (with_document (after_insert parent index new)) s
+edited s (remove id) = option_map (with_document (after_remove id)) s
 
--- the first new number and how many nodes are new
-abbrev pub given : State → Edit → ℕ × ℕ
-given s (load width height doc sheets) = (0, size doc)
+-- the number that the next new node gets
+abbrev pub next_id : State → ℕ
+next_id None = 0
+next_id (Some page) = page.document.next_id
+
+-- the first new number and how many nodes are new, where an edit brings a tree
+abbrev pub given : State → Edit → Option (ℕ × ℕ)
+given s (load width height doc sheets) = Some (0, size doc)
+given s (insert parent index new) = Some (next_id s, size new)
+given s (remove id) = None
 
 -- ---- lines
 
