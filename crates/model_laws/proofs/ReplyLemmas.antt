@@ -5,12 +5,12 @@ use Rattle.stream_model.specs.Ledger.{Log}
 use Rattle.page_model.specs.Pages.{State}
 use Rattle.page_model.specs.Refusals.{Refusal}
 use Rattle.request_model.specs.Requests.{Request, edit, dump, Asked, nothing, broken, request, asked}
-use Rattle.request_model.specs.States.{Answer, silent, refused, accepted, answer, judged, settled, refusal_of, given, next, asks_edit}
+use Rattle.request_model.specs.States.{Answer, silent, refused, accepted, answer, judged, settled, refusal_of, new_numbers, next, asks_edit}
 use Rattle.layout_model.specs.Setting.{Setting}
 use Rattle.layout_model.specs.Boxes.{units_of_pixels}
-use Rattle.reply_model.specs.Spelling.{ok_line, ok_nodes_line, error_line}
+use Rattle.reply_model.specs.Spelling.{ok_line, error_line}
 use Rattle.reply_model.specs.DumpText.{dump_text}
-use Rattle.reply_model.specs.Replies.{Course, Step, Spells, IsDump, IsReply, Moves, AreLogsOf, AreReplies, latest}
+use Rattle.reply_model.specs.Replies.{Course, Step, Spells, edit_line, IsDump, IsReply, Moves, AreLogsOf, AreReplies, latest}
 use Rattle.model_laws.proofs.BoxLemmas.{agree, box_lines-agree, flat, holds-flat}
 
 dump-one : (setting : Setting) (s : State) (x y : List ℕ) → IsDump setting s x → IsDump setting s y → x ≡ y
@@ -66,7 +66,7 @@ some-dump setting (Some page) e = (
 
 some-settled : (setting : Setting) (at : Course) (q : Request) (o : Option Refusal) → refusal_of at.state q ≡ o → (reply : List ℕ) × Spells setting at (settled q o) reply
 some-settled setting at q (Some r) e = (error_line r, refl)
-some-settled setting at (edit change) None e = (ok_nodes_line (given at.state change).0 (given at.state change).1, refl)
+some-settled setting at (edit change) None e = (edit_line (new_numbers at.state change), refl)
 some-settled setting at dump None e = some-dump setting at.state e
 
 some-spelled : (setting : Setting) (at : Course) (a : Asked) → (reply : List ℕ) × Spells setting at (judged at.state a) reply

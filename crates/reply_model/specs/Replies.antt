@@ -3,7 +3,7 @@ use Rattle.std.specs.Prelude.{◌≡◌, ℕ, List, [], ◌∷◌, ◌++◌, Boo
 use Rattle.stream_model.specs.Ledger.{Log}
 use Rattle.page_model.specs.Pages.{State}
 use Rattle.request_model.specs.Requests.{Request, edit, dump, asked}
-use Rattle.request_model.specs.States.{Answer, silent, refused, accepted, answer, given, next, asks_edit}
+use Rattle.request_model.specs.States.{Answer, silent, refused, accepted, answer, new_numbers, next, asks_edit}
 use Rattle.layout_model.specs.Setting.{Setting}
 use Rattle.layout_model.specs.Consistent.{Assignment, Consistent}
 use Rattle.reply_model.specs.Spelling.{ok_line, ok_nodes_line, error_line}
@@ -26,13 +26,13 @@ IsDump setting None reply = ⊥
 IsDump setting (Some page) reply = (a : Assignment) × Consistent setting page a × (reply ≡ dump_text page.document.root a ++ ok_line)
 
 -- the reply to an edit: the first new number and how many nodes are new, if it brought a tree
-abbrev pub given_line : Option (ℕ × ℕ) → List ℕ
-given_line None = ok_line
-given_line (Some g) = ok_nodes_line g.0 g.1
+abbrev pub edit_line : Option (ℕ × ℕ) → List ℕ
+edit_line None = ok_line
+edit_line (Some new) = ok_nodes_line new.0 new.1
 
 -- this is the reply to a request that is carried out
 abbrev pub IsOkReply : Setting → Course → Request → List ℕ → Type 0
-IsOkReply setting at (edit e) reply = reply ≡ given_line (given at.state e)
+IsOkReply setting at (edit e) reply = reply ≡ edit_line (new_numbers at.state e)
 IsOkReply setting at dump reply = IsDump setting at.state reply
 
 -- this is how an answer is spelled

@@ -1,5 +1,5 @@
 -- Which requests are refused, and the state that a line leaves.
-use Rattle.std.specs.Prelude.{ℕ, ◌&&◌, ◌||◌, List, [], ◌∷◌, Bool, true, false, not, nat_lt, Option, Some, None, is_some, is_none, option_map, unwrap_or, codes}
+use Rattle.std.specs.Prelude.{ℕ, ◌&&◌, ◌||◌, List, [], ◌∷◌, Bool, true, false, not, nat_lt, Option, Some, None, is_some, option_map, unwrap_or, codes}
 use Rattle.std.specs.Str.{bytes_eq}
 use Rattle.page_model.specs.Trees.{Tree, elem, characters, Trees, no_trees, tree, size}
 use Rattle.page_model.specs.Document.{Document, document}
@@ -25,10 +25,10 @@ abbrev mutual
   are_plain no_trees = true
   are_plain (tree t ts) = is_plain t && are_plain ts
 
--- what is said of a page, if one is loaded
-abbrev pub of_page : State → (Page → Causes) → Causes
-of_page None causes = []
-of_page (Some page) causes = causes page
+-- the causes to refuse what needs a page
+abbrev pub needs_page : State → (Page → Causes) → Causes
+needs_page None causes = (true, not_loaded) ∷ []
+needs_page (Some page) causes = causes page
 
 -- why a request is refused, in the order in which this is asked
 abbrev pub refusals : State → Request → Causes
@@ -38,13 +38,9 @@ refusals s (edit (load width height doc sheets)) =
     ∷ (nat_lt max_side width || nat_lt max_side height, viewport_range)
     ∷ load_refusals doc
 refusals s (edit (insert parent index new)) =
-    (not (is_plain new), not_built)
-    ∷ (is_none s, not_loaded)
-    ∷ of_page s (λ page. insert_refusals parent index new page.document)
-refusals s (edit (remove id)) =
-    (is_none s, not_loaded)
-    ∷ of_page s (λ page. remove_refusals id page.document)
-refusals s dump = (is_none s, not_loaded) ∷ []
+    (not (is_plain new), not_built) ∷ needs_page s (λ page. insert_refusals parent index new page.document)
+refusals s (edit (remove id)) = needs_page s (λ page. remove_refusals id page.document)
+refusals s dump = needs_page s (λ _. [])
 
 -- why a request is refused, if it is
 unfoldable pub refusal_of : State → Request → Option Refusal
@@ -69,10 +65,10 @@ next_id None = 0
 next_id (Some page) = page.document.next_id
 
 -- the first new number and how many nodes are new, where an edit brings a tree
-abbrev pub given : State → Edit → Option (ℕ × ℕ)
-given s (load width height doc sheets) = Some (0, size doc)
-given s (insert parent index new) = Some (next_id s, size new)
-given s (remove id) = None
+abbrev pub new_numbers : State → Edit → Option (ℕ × ℕ)
+new_numbers s (load width height doc sheets) = Some (0, size doc)
+new_numbers s (insert parent index new) = Some (next_id s, size new)
+new_numbers s (remove id) = None
 
 -- ---- lines
 
