@@ -18,8 +18,8 @@ pub mod NumberSizes
 pub mod Units
 pub mod NumberPieces
 pub mod Meets
-pub mod NamesAlike
 pub mod Branches
+pub mod NamesAlike
 pub mod NumbersAlike
 pub mod StringsAlike
 pub mod Alone
