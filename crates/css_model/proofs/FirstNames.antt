@@ -28,11 +28,11 @@ ident-within name s behind cs e i =
     omega (arith, mine, within)
 
 -- a function's head in front
-function-headed : (name s behind cs : Text) → s ++ behind ≡ cs → (i : IsFunction name s behind) → Headed i.is_name.parts behind cs
+pub function-headed : (name s behind cs : Text) → s ++ behind ≡ cs → (i : IsFunction name s behind) → Headed i.is_name.parts behind cs
 function-headed name s behind cs e i =
     headed name i.head behind cs i.is_name (sym (append_assoc i.head (codes "(") behind) ∙ (ap (λ xs. xs ++ behind) (sym i.spelling) ∙ e))
 
-url-headed : (value s behind cs : Text) → s ++ behind ≡ cs → (i : IsUrl value s behind) → UrlHeaded i.head (i.before ++ (parts_text i.parts ++ (i.after ++ (i.end ++ behind)))) cs
+pub url-headed : (value s behind cs : Text) → s ++ behind ≡ cs → (i : IsUrl value s behind) → UrlHeaded i.head (i.before ++ (parts_text i.parts ++ (i.after ++ (i.end ++ behind)))) cs
 url-headed value s behind cs e i =
     url_headed i.head (i.before ++ (parts_text i.parts ++ (i.after ++ (i.end ++ behind)))) cs i.is_head
     (sym (append_assoc i.head (i.before ++ (parts_text i.parts ++ (i.after ++ i.end))) behind
@@ -40,7 +40,7 @@ url-headed value s behind cs e i =
     ∙ ap (λ xs. i.before ++ xs) (append_assoc (parts_text i.parts) (i.after ++ i.end) behind ∙ ap (λ xs. parts_text i.parts ++ xs) (append_assoc i.after i.end behind))))
     ∙ (ap (λ xs. xs ++ behind) (sym i.spelling) ∙ e))
 
-bad_url-headed : (s behind cs : Text) → s ++ behind ≡ cs → (i : IsBadUrl s behind) → UrlHeaded i.head (parts_text i.parts ++ (i.end ++ behind)) cs
+pub bad_url-headed : (s behind cs : Text) → s ++ behind ≡ cs → (i : IsBadUrl s behind) → UrlHeaded i.head (parts_text i.parts ++ (i.end ++ behind)) cs
 bad_url-headed s behind cs e i =
     url_headed i.head (parts_text i.parts ++ (i.end ++ behind)) cs i.is_head
     (sym (append_assoc i.head (parts_text i.parts ++ i.end) behind ∙ ap (λ xs. i.head ++ xs) (append_assoc (parts_text i.parts) i.end behind))
@@ -58,7 +58,7 @@ names-plain cs k ne l = (
 )
 
 -- the head of a url stands there, and no quote behind it
-url-there : (head inside ds cs : Text) → UrlHeaded head inside cs → behind_parts (parts_in in_name cs) cs ≡ open_round ∷ ds → quote_follows inside ≡ false → is_url_name (flat_map meaning (parts_in in_name cs)) && not (quote_follows ds) ≡ true
+pub url-there : (head inside ds cs : Text) → UrlHeaded head inside cs → behind_parts (parts_in in_name cs) cs ≡ open_round ∷ ds → quote_follows inside ≡ false → is_url_name (flat_map meaning (parts_in in_name cs)) && not (quote_follows ds) ≡ true
 url-there head inside ds cs u b q =
     let same : inside ≡ ds = ap (drop 1) (sym u.behind ∙ b) in
     both (is_url_name (flat_map meaning (parts_in in_name cs))) (not (quote_follows ds)) u.url_name (not-false (quote_follows ds) (ap quote_follows (sym same) ∙ q))
@@ -116,7 +116,7 @@ pub record Named (cs : Text) : Type 0 where
   pub cdc : has_front (codes "-->") cs ≡ false
   pub name : begins_name cs ≡ true
 
-other-char : (c d : ℕ) (cs : Text) → begins_name (c ∷ cs) ≡ true → begins_name (d ∷ cs) ≡ false → c == d ≡ false
+pub other-char : (c d : ℕ) (cs : Text) → begins_name (c ∷ cs) ≡ true → begins_name (d ∷ cs) ≡ false → c == d ≡ false
 other-char c d cs h f = elim (cases_Bool (c == d)) [ inl t ↦ absurd (true≢false (sym (ap (λ x. begins_name (x ∷ cs)) (sym (eqb-true c d t)) ∙ h) ∙ f)) | inr n ↦ n ]
 
 bounds-named : (c : ℕ) (cs : Text) (k : ℕ) → Named (c ∷ cs) → Bound names (c ∷ cs) k → Bounds (c ∷ cs) k
@@ -132,7 +132,7 @@ bounds-named c cs k o b ats = inl (other-char c 64 cs o.name (ap begins_identifi
 
 -- ---- the first piece
 
-some-text : (parts : List Part) → begins_identifier parts ≡ true → 1 ≤ length (parts_text parts)
+pub some-text : (parts : List Part) → begins_identifier parts ≡ true → 1 ≤ length (parts_text parts)
 some-text [] h = absurd (false≢true h)
 some-text (itself c ∷ parts) h = omega arith
 some-text (escaped c ∷ parts) h = omega arith

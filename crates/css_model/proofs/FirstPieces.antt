@@ -20,7 +20,7 @@ use Rattle.css_model.proofs.FirstNames.{names-plain, name-first}
 
 -- ---- `-->`
 
-cdc-parts : (cs : Text) → parts_in in_name (45 ∷ 45 ∷ 62 ∷ cs) ≡ itself 45 ∷ itself 45 ∷ []
+pub cdc-parts : (cs : Text) → parts_in in_name (45 ∷ 45 ∷ 62 ∷ cs) ≡ itself 45 ∷ itself 45 ∷ []
 cdc-parts cs = parts_in-cons in_name 45 (45 ∷ 62 ∷ cs) refl ∙ ap (λ ps. itself 45 ∷ ps) (parts_in-cons in_name 45 (62 ∷ cs) refl ∙ ap (λ ps. itself 45 ∷ ps) (parts_in-stop in_name 62 cs refl))
 
 bounds-cdc : (cs : Text) → Bounds (45 ∷ 45 ∷ 62 ∷ cs) 3

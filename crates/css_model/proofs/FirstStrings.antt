@@ -154,18 +154,18 @@ parts-within allowed parts behind h =
 
 -- ---- strings
 
-string-stop : (quote : ℕ) → is_quote quote ≡ true → (xs : Text) → parts_in (in_string quote) (quote ∷ xs) ≡ []
+pub string-stop : (quote : ℕ) → is_quote quote ≡ true → (xs : Text) → parts_in (in_string quote) (quote ∷ xs) ≡ []
 string-stop quote h xs = elim (or-cases (quote == 34) (quote == 39) h) [
   | inl u ↦ subst (λ x. parts_in (in_string x) (x ∷ xs) ≡ []) (sym (eqb-true quote 34 u)) (parts_in-stop (in_string 34) 34 xs refl)
   | inr u ↦ subst (λ x. parts_in (in_string x) (x ∷ xs) ≡ []) (sym (eqb-true quote 39 u)) (parts_in-stop (in_string 39) 39 xs refl)
 ]
 
-abbrev first_or : Text → ℕ
+abbrev pub first_or : Text → ℕ
 first_or [] = 0
 first_or (c ∷ cs) = c
 
 -- both begin with the same quote
-quote-same : (q quote : ℕ) (s cs : Text) → q ∷ s ≡ quote ∷ cs → q ≡ quote
+pub quote-same : (q quote : ℕ) (s cs : Text) → q ∷ s ≡ quote ∷ cs → q ≡ quote
 quote-same q quote s cs e = ap (λ xs. first_or xs) e
 
 string-bound : (quote : ℕ) (cs : Text) → is_quote quote ≡ true → Bound quotes (quote ∷ cs) (suc (length (closed_text (in_string quote) quote cs)))

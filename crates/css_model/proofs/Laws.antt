@@ -23,11 +23,11 @@ pieces_after-drop (suc n) [] = refl
 pieces_after-drop zero (c ∷ cs) = refl
 pieces_after-drop (suc n) (c ∷ cs) = pieces_after-drop n cs
 
-pieces-nil : pieces [] ≡ []
+pub pieces-nil : pieces [] ≡ []
 unfolding pieces_after
 pieces-nil = refl
 
-pieces-cons : (c : ℕ) (cs : Text) → pieces (c ∷ cs) ≡ first_piece c cs ∷ pieces (drop (pred (length (piece_text (first_piece c cs)))) cs)
+pub pieces-cons : (c : ℕ) (cs : Text) → pieces (c ∷ cs) ≡ first_piece c cs ∷ pieces (drop (pred (length (piece_text (first_piece c cs)))) cs)
 unfolding pieces_after
 pieces-cons c cs = ap (λ ps. first_piece c cs ∷ ps) (pieces_after-drop (pred (length (piece_text (first_piece c cs)))) cs)
 
@@ -37,7 +37,7 @@ pub record Cut (ps : List Piece) (cs : Text) : Type 0 where
   pub are : ArePieces ps
 
 -- behind a first piece stands what is left of the text
-behind-first : (s rest : Text) (c : ℕ) (cs : Text) → s ++ rest ≡ c ∷ cs → 1 ≤ length s → drop (pred (length s)) cs ≡ rest
+pub behind-first : (s rest : Text) (c : ℕ) (cs : Text) → s ++ rest ≡ c ∷ cs → 1 ≤ length s → drop (pred (length s)) cs ≡ rest
 behind-first [] rest c cs e l = absurd (omega (arith, l))
 behind-first (d ∷ s) rest c cs e l = ap (drop (length s)) (sym (ap (drop 1) e)) ∙ drop-append_seam s rest
 

@@ -25,14 +25,14 @@ use Rattle.css_model.proofs.Units.{number-no_name, unit-split}
 use Rattle.css_model.proofs.FirstPieces.{Numbered, NumbersAreFirst, pieces-first}
 
 -- what stands behind the number in front of a text
-abbrev behind_numeral : Text → Text
+abbrev pub behind_numeral : Text → Text
 behind_numeral cs = drop (length (numeral_text (numeral_in cs))) cs
 
 -- how long that number is
 abbrev size_of_numeral : Text → ℕ
 size_of_numeral cs = length (numeral_text (numeral_in cs))
 
-behind-is : (w : Numeral) (rest cs : Text) → numeral_text w ++ rest ≡ cs → numeral_in cs ≡ w → behind_numeral cs ≡ rest
+pub behind-is : (w : Numeral) (rest cs : Text) → numeral_text w ++ rest ≡ cs → numeral_in cs ≡ w → behind_numeral cs ≡ rest
 behind-is w rest cs e is = ap (λ n. drop (length (numeral_text n)) cs) is ∙ (ap (drop (length (numeral_text w))) (sym e) ∙ drop-append_seam (numeral_text w) rest)
 
 -- no number, percentage or dimension is longer than k, if those that begin with the number that is computed are not
@@ -67,7 +67,7 @@ numbers-bound cs k l percent unit = (
 
 -- ---- other classes
 
-number-char : (c d : ℕ) (cs : Text) → begins_number (c ∷ cs) ≡ true → begins_number (d ∷ cs) ≡ false → c == d ≡ false
+pub number-char : (c d : ℕ) (cs : Text) → begins_number (c ∷ cs) ≡ true → begins_number (d ∷ cs) ≡ false → c == d ≡ false
 number-char c d cs h f = elim (cases_Bool (c == d)) [ inl t ↦ absurd (true≢false (sym (ap (λ x. begins_number (x ∷ cs)) (sym (eqb-true c d t)) ∙ h) ∙ f)) | inr n ↦ n ]
 
 number-no_cdc : (cs : Text) → begins_number cs ≡ true → has_front (codes "-->") cs ≡ false
@@ -108,13 +108,13 @@ some-of : (a b : Text) → is_empty a && is_empty b ≡ false → 1 ≤ length a
 some-of [] b h = let l : 1 ≤ length b = some-length b h in omega (arith, l)
 some-of (x ∷ a) b h = omega arith
 
-numeral-some : (w : Numeral) → IsNumeral w → 1 ≤ length (numeral_text w)
+pub numeral-some : (w : Numeral) → IsNumeral w → 1 ≤ length (numeral_text w)
 numeral-some w h =
     let l : 1 ≤ length w.whole + length w.fraction = some-of w.whole w.fraction h.some_digit in
     let f : length w.fraction ≤ length (fraction_text w.fraction) = fraction-length w.fraction in
     rw (numeral-length w) (omega (arith, l, f))
 
-percent-no_name : (cs behind : Text) → cs ≡ codes "%" ++ behind → begins_name cs ≡ false
+pub percent-no_name : (cs behind : Text) → cs ≡ codes "%" ++ behind → begins_name cs ≡ false
 percent-no_name cs behind e = ap begins_name e ∙ ap begins_identifier (parts_in-stop in_name 37 behind refl)
 
 name-there : (cs unit tail behind : Text) → cs ≡ tail ++ behind → IsName unit true tail behind → begins_name cs ≡ true

@@ -41,7 +41,7 @@ start-no_char : (c d : ℕ) → is_name_start d ≡ false → is_name_start c �
 start-no_char c d f h = elim (cases_Bool (c == d)) [ inr n ↦ n | inl t ↦ absurd (true≢false (sym (ap is_name_start (sym (eqb-true c d t)) ∙ h) ∙ f)) ]
 
 -- neither a digit nor a point stands in front of an identifier
-ident-other : (parts : List Part) (rest : Text) → begins_identifier parts ≡ true → IsOther (parts_text parts ++ rest)
+pub ident-other : (parts : List Part) (rest : Text) → begins_identifier parts ≡ true → IsOther (parts_text parts ++ rest)
 ident-other [] rest h = absurd (false≢true h)
 ident-other (itself c ∷ parts) rest h = elim (or-cases (is_name_start c) ((c == hyphen) && follows_hyphen parts) h) [
   | inl t ↦ (start-no_digit c t, start-no_char c full_stop refl t)

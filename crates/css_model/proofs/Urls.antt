@@ -153,3 +153,15 @@ url-computed before after end rest (q ∷ parts) b p a e =
     ap (λ xs. is_closed (after_white (after_parts xs))) (after_white-is before (parts_text (q ∷ parts) ++ (after ++ cs)) b (parts-no_white q parts (after ++ cs) p))
     ∙ (ap (λ xs. is_closed (after_white xs)) (after_parts-is (q ∷ parts) (after ++ cs) p none)
     ∙ (ap is_closed (after_white-is after cs a (end-no_white end rest e)) ∙ end-closed end rest e))
+
+-- the parts of a url of the definition are those behind the first white space
+pub url-parts : (before after end rest : Text) (parts : List Part) → list_all is_white before ≡ true → AreParts in_url parts (after ++ (end ++ rest)) → list_all is_white after ≡ true → IsEnd (codes ")") end rest
+    → parts_in in_url (after_white (before ++ (parts_text parts ++ (after ++ (end ++ rest))))) ≡ parts
+url-parts before after end rest [] b p a e =
+    let cs : Text = end ++ rest in
+    let first : after_white (before ++ (after ++ cs)) ≡ cs = ap after_white (sym (append_assoc before after cs)) ∙ after_white-is (before ++ after) cs (list_all-both before after b a) (end-no_white end rest e) in
+    ap (parts_in in_url) first ∙ stops-at-end in_url close_round url-stop end rest e
+url-parts before after end rest (q ∷ parts) b p a e =
+    let cs : Text = end ++ rest in
+    ap (parts_in in_url) (after_white-is before (parts_text (q ∷ parts) ++ (after ++ cs)) b (parts-no_white q parts (after ++ cs) p))
+    ∙ parts-stopped in_url (q ∷ parts) (after ++ cs) p (white-stop after cs a (stops-at-end in_url close_round url-stop end rest e))

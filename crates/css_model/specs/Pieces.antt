@@ -1,5 +1,5 @@
 -- The pieces and the tokens of a text, computed in the way of the standard's algorithm (CSS Syntax 3, section 4.3); that they are those of the definition is a law about them. The meaning is in TokenList, and contracts cite that; this is one way to find it.
-use Rattle.std.specs.Prelude.{ℕ, zero, suc, pred, ◌==◌, ◌&&◌, ◌||◌, not, List, [], ◌∷◌, ◌++◌, length, drop, flat_map, codes, Bool, true, false, if◌then◌else◌}
+use Rattle.std.specs.Prelude.{ℕ, zero, suc, pred, ◌==◌, ◌&&◌, ◌||◌, not, List, [], ◌∷◌, ◌++◌, length, drop, map, flat_map, codes, Bool, true, false, if◌then◌else◌}
 use Rattle.css_model.specs.Classes.{Text, open_round, close_round, is_white, is_quote, begins, is_empty}
 use Rattle.css_model.specs.Preprocessing.{preprocessed}
 use Rattle.css_model.specs.Tokens.{round, square, curly, Kind, ident, function, at_keyword, hash, string, bad_string, url, bad_url, delim, number, percentage, dimension, white_space, cdo, cdc, colon, semicolon, comma, opening, closing, Token}
@@ -146,3 +146,7 @@ pieces cs = pieces_after 0 cs
 -- the tokens of a text
 abbrev pub tokens : Text → List Token
 tokens text = tokens_from 0 (pieces (preprocessed text))
+
+-- the classes and values of the tokens of a text
+abbrev pub kinds : Text → List Kind
+kinds text = map (λ t. t.kind) (tokens text)

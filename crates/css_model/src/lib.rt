@@ -1,7 +1,11 @@
 //! What a text of CSS is: its characters after preprocessing, its list of tokens, and the nesting of its brackets.
-//! Definitions in `specs/`, beside CSS Syntax 3 (sections 3.3, 4.2, 4.3, 5.4.7 to 5.4.9) page by page; and one law of them.
+//! Definitions in `specs/`, beside CSS Syntax 3 (sections 3.3, 4.2, 4.3, 5.4.7 to 5.4.9) page by page; and the laws that each text has one token list.
 #![tactic(auto)]
 
+mod examples;
 mod token_list;
 
-pub use token_list::computed_tokens_are_a_token_list;
+pub use examples::{
+    examples_of_classes, examples_of_escapes, examples_of_numbers, examples_of_places,
+};
+pub use token_list::{computed_tokens_are_a_token_list, one_token_list};

@@ -1,0 +1,191 @@
+-- Pieces of one character.
+use Rattle.std.proofs.Common.{◌≡◌, ◌∙◌, sym, ap, refl, subst, ℕ, suc, ◌+◌, ◌≤◌, ◌==◌, List, [], ◌∷◌, ◌++◌, length, drop, Bool, true, false, ◌&&◌, ◌||◌, arith, length-append, inl, inr}
+use Rattle.std.proofs.lemmas.Bool.{true≢false, false≢true}
+use Rattle.std.specs.Prelude.{codes}
+use Rattle.std.specs.List.{list_all}
+use Rattle.css_model.specs.Classes.{Text, hyphen, backslash, full_stop, is_digit, is_name_start, is_white, is_quote, is_empty}
+use Rattle.css_model.specs.Tokens.{round, square, curly, Kind, ident, function, at_keyword, hash, string, bad_string, url, bad_url, delim, number, percentage, dimension, white_space, cdo, cdc, colon, semicolon, comma, opening, closing}
+use Rattle.css_model.specs.Parts.{Part, itself, escaped, coded, joined, cut_off, parts_text, AreParts, in_name}
+use Rattle.css_model.specs.Numerals.{Numeral, fraction_text, exponent_text, numeral_text, IsNumeral}
+use Rattle.css_model.specs.Spellings.{begins_identifier, follows_hyphen, IsName, IsUrlHead, is_one_of, begins_other, IsDelim, Spells}
+use Rattle.css_model.specs.TokenList.{Piece, comment, token}
+use Rattle.css_model.specs.Pieces.{kind_of}
+use Rattle.css_model.proofs.Tests.{and-left, and-right, or-cases, or-false-left, or-false-right}
+use Rattle.css_model.proofs.FirstNames.{some-text}
+use Rattle.css_model.proofs.FirstNumbers.{numeral-unjoined}
+use Rattle.css_model.proofs.FirstStrings.{first_or}
+use Rattle.css_model.proofs.NumberSizes.{some-length, fraction-length}
+use Rattle.css_model.proofs.Meets.{Meets, meet}
+
+-- a character with which no longer class begins, before this rest
+pub record Alone (c : ℕ) (rest : Text) : Type 0 where
+  pub white : is_white c ≡ false
+  pub quote : is_quote c ≡ false
+  pub digit : is_digit c ≡ false
+  pub start : is_name_start c ≡ false
+  pub no_escape : (c == backslash) && is_empty rest ≡ false
+
+-- ---- no names
+
+follows-some : (parts : List Part) → follows_hyphen parts ≡ true → 1 ≤ length (parts_text parts)
+follows-some [] h = absurd (false≢true h)
+follows-some (itself c ∷ parts) h = omega arith
+follows-some (escaped c ∷ parts) h = omega arith
+follows-some (coded digits blank ∷ parts) h = omega arith
+follows-some (joined ∷ parts) h = omega arith
+follows-some (cut_off ∷ parts) h = omega arith
+
+-- behind the first of one character stands nothing
+tail-none : (d c : ℕ) (xs : Text) → d ∷ xs ≡ c ∷ [] → length xs ≡ 0
+tail-none d c xs e = ap (λ ys. length (drop 1 ys)) e
+
+name-longer : (parts : List Part) (c : ℕ) (rest : Text) → Alone c rest → AreParts in_name parts rest → parts_text parts ≡ c ∷ [] → begins_identifier parts ≡ true → ⊥
+name-longer [] c rest a h e i = false≢true i
+name-longer (itself d ∷ parts) c rest a h e i = elim (or-cases (is_name_start d) ((d == hyphen) && follows_hyphen parts) i) [
+  | inl t ↦ true≢false (sym t ∙ (ap (λ xs. is_name_start (first_or xs)) e ∙ a.start))
+  | inr t ↦
+      let some : 1 ≤ length (parts_text parts) = follows-some parts (and-right (d == hyphen) (follows_hyphen parts) t) in
+      let none : length (parts_text parts) ≡ 0 = tail-none d c (parts_text parts) e in
+      absurd (omega (arith, some, none))
+]
+name-longer (escaped d ∷ parts) c rest a h e i = let none : length (d ∷ parts_text parts) ≡ 0 = tail-none backslash c (d ∷ parts_text parts) e in absurd (omega (arith, none))
+name-longer (coded digits blank ∷ parts) c rest a h e i =
+    let some : 1 ≤ length digits = h.1.1 in
+    let none : length ((digits ++ blank) ++ parts_text parts) ≡ 0 = tail-none backslash c ((digits ++ blank) ++ parts_text parts) e in
+    let all : length ((digits ++ blank) ++ parts_text parts) ≡ length digits + length blank + length (parts_text parts) = length-append (digits ++ blank) (parts_text parts) ∙ ap (λ n. n + length (parts_text parts)) (length-append digits blank) in
+    absurd (omega (arith, some, none, all))
+name-longer (joined ∷ parts) c rest a h e i = false≢true i
+name-longer (cut_off ∷ parts) c rest a h e i =
+    let none : parts_text parts ≡ [] = ap (drop 1) e in
+    let end : rest ≡ [] = sym (ap (λ xs. xs ++ rest) none) ∙ h.1 in
+    true≢false (sym (ap (λ xs. (first_or xs == backslash) && is_empty rest) (sym e) ∙ ap is_empty end) ∙ a.no_escape)
+
+pub name-some : (name : Text) (s rest : Text) → IsName name true s rest → 1 ≤ length s
+name-some name s rest h = subst (λ xs. 1 ≤ length xs) (sym h.spelling) (some-text h.parts h.identifier)
+
+pub open-long : (name head s rest : Text) → IsName name true head rest → s ≡ head ++ codes "(" → 2 ≤ length s
+open-long name head s rest h e =
+    let some : 1 ≤ length head = name-some name head rest h in
+    let size : length s ≡ length head + 1 = ap length e ∙ length-append head (codes "(") in
+    omega (arith, some, size)
+
+pub head-long : (s head tail rest : Text) → IsUrlHead head rest → s ≡ head ++ tail → 2 ≤ length s
+head-long s head tail rest h e =
+    let two : 2 ≤ length head = open-long h.name h.head head (codes "(" ++ rest) h.is_name h.spelling in
+    let size : length s ≡ length head + length tail = ap length e ∙ length-append head tail in
+    omega (arith, two, size)
+
+no-long : (s : Text) (c : ℕ) → s ≡ c ∷ [] → 2 ≤ length s → ⊥
+no-long s c e l = let one : length s ≡ 1 = ap length e in absurd (omega (arith, one, l))
+
+-- ---- no numbers
+
+some-digits : (whole fraction : Text) → is_empty whole && is_empty fraction ≡ false → 1 ≤ length whole + length fraction
+some-digits [] fraction h = let l : 1 ≤ length fraction = some-length fraction h in omega (arith, l)
+some-digits (d ∷ whole) fraction h = omega arith
+
+-- a number of one character is a digit
+digit-alone : (sign whole fraction more : Text) (c : ℕ) → list_all is_digit whole ≡ true → is_empty whole && is_empty fraction ≡ false → sign ++ (whole ++ (fraction_text fraction ++ more)) ≡ c ∷ [] → is_digit c ≡ true
+digit-alone [] [] [] more c w s e = absurd (true≢false s)
+digit-alone [] [] (x ∷ xs) more c w s e = let none : length (x ∷ (xs ++ more)) ≡ 0 = tail-none full_stop c (x ∷ (xs ++ more)) e in absurd (omega (arith, none))
+digit-alone [] (d ∷ ds) fraction more c w s e = ap (λ xs. is_digit (first_or xs)) (sym e) ∙ and-left (is_digit d) (list_all is_digit ds) w
+digit-alone (g ∷ gs) whole fraction more c w s e =
+    let none : length (gs ++ (whole ++ (fraction_text fraction ++ more))) ≡ 0 = tail-none g c (gs ++ (whole ++ (fraction_text fraction ++ more))) e in
+    let one : length (gs ++ (whole ++ (fraction_text fraction ++ more))) ≡ length gs + length (whole ++ (fraction_text fraction ++ more)) = length-append gs (whole ++ (fraction_text fraction ++ more)) in
+    let two : length (whole ++ (fraction_text fraction ++ more)) ≡ length whole + length (fraction_text fraction ++ more) = length-append whole (fraction_text fraction ++ more) in
+    let three : length (fraction_text fraction ++ more) ≡ length (fraction_text fraction) + length more = length-append (fraction_text fraction) more in
+    let l : length fraction ≤ length (fraction_text fraction) = fraction-length fraction in
+    let some : 1 ≤ length whole + length fraction = some-digits whole fraction s in
+    absurd (omega (arith, none, one, two, three, l, some))
+
+number-longer : (w : Numeral) (tail s : Text) (c : ℕ) (rest : Text) → Alone c rest → IsNumeral w → s ≡ numeral_text w ++ tail → s ≡ c ∷ [] → ⊥
+number-longer w tail s c rest a h e l =
+    true≢false (sym (digit-alone w.sign w.whole w.fraction (exponent_text w ++ tail) c h.whole h.some_digit (sym (numeral-unjoined w tail) ∙ (sym e ∙ l))) ∙ a.digit)
+
+-- ---- the character's own class
+
+other-delim : (c : ℕ) → is_one_of (codes ":;,()[]{}") c ≡ false → delim c ≡ kind_of c
+other-delim c h =
+    let n58 : c == 58 ≡ false = or-false-left (c == 58) (is_one_of (codes ";,()[]{}") c) h in
+    let h59 : is_one_of (codes ";,()[]{}") c ≡ false = or-false-right (c == 58) (is_one_of (codes ";,()[]{}") c) h in
+    let n59 : c == 59 ≡ false = or-false-left (c == 59) (is_one_of (codes ",()[]{}") c) h59 in
+    let h44 : is_one_of (codes ",()[]{}") c ≡ false = or-false-right (c == 59) (is_one_of (codes ",()[]{}") c) h59 in
+    let n44 : c == 44 ≡ false = or-false-left (c == 44) (is_one_of (codes "()[]{}") c) h44 in
+    let h40 : is_one_of (codes "()[]{}") c ≡ false = or-false-right (c == 44) (is_one_of (codes "()[]{}") c) h44 in
+    let n40 : c == 40 ≡ false = or-false-left (c == 40) (is_one_of (codes ")[]{}") c) h40 in
+    let h41 : is_one_of (codes ")[]{}") c ≡ false = or-false-right (c == 40) (is_one_of (codes ")[]{}") c) h40 in
+    let n41 : c == 41 ≡ false = or-false-left (c == 41) (is_one_of (codes "[]{}") c) h41 in
+    let h91 : is_one_of (codes "[]{}") c ≡ false = or-false-right (c == 41) (is_one_of (codes "[]{}") c) h41 in
+    let n91 : c == 91 ≡ false = or-false-left (c == 91) (is_one_of (codes "]{}") c) h91 in
+    let h93 : is_one_of (codes "]{}") c ≡ false = or-false-right (c == 91) (is_one_of (codes "]{}") c) h91 in
+    let n93 : c == 93 ≡ false = or-false-left (c == 93) (is_one_of (codes "{}") c) h93 in
+    let h123 : is_one_of (codes "{}") c ≡ false = or-false-right (c == 93) (is_one_of (codes "{}") c) h93 in
+    let n123 : c == 123 ≡ false = or-false-left (c == 123) (is_one_of (codes "}") c) h123 in
+    let h125 : is_one_of (codes "}") c ≡ false = or-false-right (c == 123) (is_one_of (codes "}") c) h123 in
+    let n125 : c == 125 ≡ false = or-false-left (c == 125) false h125 in
+    rw n58 (rw n59 (rw n44 (rw n40 (rw n41 (rw n91 (rw n93 (rw n123 (rw n125 refl))))))))
+
+-- of what begins no other class
+abbrev is_listed : ℕ → Bool
+is_listed c = is_one_of (codes ":;,()[]{}") c
+
+pub delim-alone : (c : ℕ) (s rest : Text) → IsDelim c s rest → Alone c rest
+delim-alone c s rest h =
+    let o1 : is_quote c || (is_digit c || (is_name_start c || is_listed c)) ≡ false = or-false-right (is_white c) (is_quote c || (is_digit c || (is_name_start c || is_listed c))) h.other in
+    let o2 : is_digit c || (is_name_start c || is_listed c) ≡ false = or-false-right (is_quote c) (is_digit c || (is_name_start c || is_listed c)) o1 in
+    let o3 : is_name_start c || is_listed c ≡ false = or-false-right (is_digit c) (is_name_start c || is_listed c) o2 in
+    record {
+      white = or-false-left (is_white c) (is_quote c || (is_digit c || (is_name_start c || is_listed c))) h.other;
+      quote = or-false-left (is_quote c) (is_digit c || (is_name_start c || is_listed c)) o1;
+      digit = or-false-left (is_digit c) (is_name_start c || is_listed c) o2;
+      start = or-false-left (is_name_start c) (is_listed c) o3;
+      no_escape = h.no_escape;
+    }
+
+delim-kind : (c : ℕ) → begins_other c ≡ false → delim c ≡ kind_of c
+delim-kind c h =
+    let o1 : is_quote c || (is_digit c || (is_name_start c || is_listed c)) ≡ false = or-false-right (is_white c) (is_quote c || (is_digit c || (is_name_start c || is_listed c))) h in
+    let o2 : is_digit c || (is_name_start c || is_listed c) ≡ false = or-false-right (is_quote c) (is_digit c || (is_name_start c || is_listed c)) o1 in
+    let o3 : is_name_start c || is_listed c ≡ false = or-false-right (is_digit c) (is_name_start c || is_listed c) o2 in
+    other-delim c (or-false-right (is_name_start c) (is_listed c) o3)
+
+-- the class of a mark that is written so
+mark-kind : (kind : Kind) (d c : ℕ) (s : Text) → kind ≡ kind_of d → s ≡ d ∷ [] → s ≡ c ∷ [] → kind ≡ kind_of c
+mark-kind kind d c s k e l = k ∙ ap (λ xs. kind_of (first_or xs)) (sym e ∙ l)
+
+quoted-longer : (quote c : ℕ) (xs s rest : Text) → Alone c rest → is_quote quote ≡ true → s ≡ quote ∷ xs → s ≡ c ∷ [] → ⊥
+quoted-longer quote c xs s rest a q e l = true≢false (sym q ∙ (ap (λ ys. is_quote (first_or ys)) (sym e ∙ l) ∙ a.quote))
+
+pub alone-is : (kind : Kind) (c : ℕ) (s rest : Text) → Alone c rest → s ≡ c ∷ [] → Spells kind s rest → kind ≡ kind_of c
+alone-is (ident name) c s rest a e h = absurd (name-longer h.parts c rest a h.are_parts (sym h.spelling ∙ e) h.identifier)
+alone-is (function name) c s rest a e h = absurd (no-long s c e (open-long name h.head s (codes "(" ++ rest) h.is_name h.spelling))
+alone-is (at_keyword name) c s rest a e h = let some : 1 ≤ length h.0 = name-some name h.0 rest h.2 in let size : length s ≡ suc (length h.0) = ap length h.1 in absurd (no-long s c e (omega (arith, some, size)))
+alone-is (hash name is_id) c s rest a e h = let some : 1 ≤ length h.0 = some-length h.0 h.2 in let size : length s ≡ suc (length h.0) = ap length h.1 in absurd (no-long s c e (omega (arith, some, size)))
+alone-is (string value) c s rest a e h = absurd (quoted-longer h.quote c (parts_text h.parts ++ h.end) s rest a h.is_quoted h.spelling e)
+alone-is bad_string c s rest a e h = absurd (quoted-longer h.quote c (parts_text h.parts) s rest a h.is_quoted h.spelling e)
+alone-is (url value) c s rest a e h = absurd (no-long s c e (head-long s h.head (h.before ++ (parts_text h.parts ++ (h.after ++ h.end))) (h.before ++ (parts_text h.parts ++ (h.after ++ (h.end ++ rest)))) h.is_head h.spelling))
+alone-is bad_url c s rest a e h = absurd (no-long s c e (head-long s h.head (parts_text h.parts ++ h.end) (parts_text h.parts ++ (h.end ++ rest)) h.is_head h.spelling))
+alone-is (delim d) c s rest a e h = mark-kind (delim d) d c s (delim-kind d h.other) h.spelling e
+alone-is (number n) c s rest a e h = absurd (number-longer h.numeral [] s c rest a h.is_numeral h.spelling e)
+alone-is (percentage n) c s rest a e h = absurd (number-longer h.numeral (codes "%") s c rest a h.is_numeral h.spelling e)
+alone-is (dimension n unit) c s rest a e h = absurd (number-longer h.numeral h.tail s c rest a h.is_numeral h.spelling e)
+alone-is white_space c s rest a e h = absurd (true≢false (sym (and-left (is_white c) true (ap (list_all is_white) (sym e) ∙ h.0)) ∙ a.white))
+alone-is cdo c s rest a e h = absurd (no-long s c e (subst (λ xs. 2 ≤ length xs) (sym h) (omega arith)))
+alone-is cdc c s rest a e h = absurd (no-long s c e (subst (λ xs. 2 ≤ length xs) (sym h) (omega arith)))
+alone-is colon c s rest a e h = mark-kind colon 58 c s refl h e
+alone-is semicolon c s rest a e h = mark-kind semicolon 59 c s refl h e
+alone-is comma c s rest a e h = mark-kind comma 44 c s refl h e
+alone-is (opening round) c s rest a e h = mark-kind (opening round) 40 c s refl h e
+alone-is (opening square) c s rest a e h = mark-kind (opening square) 91 c s refl h e
+alone-is (opening curly) c s rest a e h = mark-kind (opening curly) 123 c s refl h e
+alone-is (closing round) c s rest a e h = mark-kind (closing round) 41 c s refl h e
+alone-is (closing square) c s rest a e h = mark-kind (closing square) 93 c s refl h e
+alone-is (closing curly) c s rest a e h = mark-kind (closing curly) 125 c s refl h e
+
+-- a character alone is one piece
+pub alone-meets : (kind : Kind) (c : ℕ) (s rest : Text) → Alone c rest → s ≡ c ∷ [] → Spells kind s rest → (q : Piece) → Meets kind s rest q
+alone-meets kind c s rest a e h (token other t) = meet kind other s t rest (λ k. alone-is kind c s rest a e h ∙ sym (alone-is other c s rest a e k))
+alone-meets kind c s rest a e h (comment t) = λ j k.
+    let two : 2 ≤ length t = subst (λ xs. 2 ≤ length xs) (sym k.spelling) (omega arith) in
+    let size : length t ≡ 1 = ap length (j ∙ e) in
+    absurd (omega (arith, two, size))
