@@ -1,5 +1,6 @@
 pub mod WalkLemmas
 pub mod ReplyLemmas
-pub mod LoadLemmas
 pub mod DumpLemmas
 pub mod ServeLemmas
+pub mod NumberLemmas
+pub mod EditLemmas

@@ -6,3 +6,4 @@ pub mod Runs
 pub mod Words
 pub mod Coming
 pub mod Turns
+pub mod Edits

@@ -9,8 +9,7 @@ ghost use Rattle.relayout_cli.specs.Walk.{node_at, nodes_at, Reaches, AllReach};
 ghost use Rattle.relayout_cli.specs.Flat.{frame_view, all_flat};
 
 use crate::boxes::Frame;
-use crate::limits::MAX_DEPTH;
-use crate::page::{Page, width_in_units};
+use crate::page::{MAX_DEPTH, Page, width_in_units};
 use crate::replies::{push_field, push_ok};
 use dom_arena::{Children, Doc};
 use itoa::Buffer;

@@ -3,8 +3,9 @@
 
 mod boxes;
 mod dump;
-mod limits;
+mod edits;
 mod page;
+mod plain;
 mod replies;
 mod respond;
 mod running;

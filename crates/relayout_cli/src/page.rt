@@ -1,4 +1,4 @@
-ghost use Rattle.std.specs.Prelude.{◌≡◌, ◌≤◌};
+ghost use Rattle.std.specs.Prelude.{◌≡◌, ◌≤◌, ◌||◌, nat_lt, is_none, IfSome};
 ghost use Rattle.page_model.specs.Limits.{max_side};
 ghost use Rattle.layout_model.specs.Boxes.{units_of_pixels};
 
@@ -7,7 +7,10 @@ use port_core::{Seq, Text};
 use units64::Units;
 
 /// The most pixels that a viewport's side has.
-pub const MAX_SIDE: u64 = 10_000;
+const MAX_SIDE: u64 = 10_000;
+
+/// The deepest level of a document, where the root stands at 1.
+pub const MAX_DEPTH: u32 = 96;
 
 /// How many units a pixel has.
 const UNITS_PER_PIXEL: i64 = 64;
@@ -19,6 +22,20 @@ pub struct Viewport {
     pub height: u64,
     ghost narrow: { width ≤ max_side },
     ghost low: { height ≤ max_side },
+}
+
+impl Viewport {
+    /// A viewport of these sides in pixels, or nothing where one is greater than 10,000.
+    pub fn new(width: u64, height: u64) -> Option<Viewport>
+        ensures sides { IfSome result (λ v. (v.width ≡ width) × (v.height ≡ height)) }
+        ensures range { is_none result ≡ nat_lt max_side width || nat_lt max_side height }
+    {
+        if width > MAX_SIDE || height > MAX_SIDE {
+            return None;
+        }
+        let viewport = Viewport { width, height };
+        Some(viewport)
+    }
 }
 
 /// What is loaded.

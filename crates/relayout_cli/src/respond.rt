@@ -1,21 +1,23 @@
-ghost use Rattle.std.specs.Prelude.{◌≡◌, [], OnOk, OnErr, IfOk, IfErr, Some, None, unwrap_or, string_bytes};
-ghost use Rattle.page_model.specs.Pages.{State};
-ghost use Rattle.request_model.specs.Requests.{edit, request, dump};
-ghost use Rattle.request_model.specs.States.{refusal_of, judged, left_by, edited};
+ghost use Rattle.std.specs.Prelude.{◌≡◌, [], OnOk, OnErr, is_ok, false, string_bytes};
 ghost use Rattle.page_model.specs.Trees.{size};
+ghost use Rattle.page_model.specs.Refusals.{first_of};
+ghost use Rattle.page_model.specs.Edits.{insert_refusals, remove_refusals, after_insert, after_remove};
+ghost use Rattle.request_model.specs.Requests.{remove, edit as an_edit, request, dump};
+ghost use Rattle.request_model.specs.States.{judged, left_by, with_document};
 ghost use Rattle.dom_arena.specs.Shape.{shape};
-ghost use Rattle.reply_model.specs.Spelling.{ok_nodes_line};
-ghost use Rattle.relayout_requests.specs.Views.{asked_view, refusal_view, load_view};
-ghost use Rattle.relayout_cli.specs.Pages.{state_view};
+ghost use Rattle.reply_model.specs.Spelling.{ok_line, ok_nodes_line};
+ghost use Rattle.relayout_requests.specs.Views.{asked_view, edit_view, load_view, insert_view};
+ghost use Rattle.relayout_cli.specs.Pages.{page_view, state_view};
 ghost use Rattle.relayout_cli.specs.Runs.{AnswersTo};
+ghost use Rattle.relayout_cli.specs.Edits.{IsTold, IsSettled, unless, line_unless};
 
 use crate::dump::push_dump;
-use crate::limits::{MAX_DEPTH, MAX_NODES, is_plain_tree, is_within, room_after};
-use crate::page::{MAX_SIDE, Page, Viewport};
-use crate::replies::{push_error, push_ok_nodes};
-use dom_arena::{Doc, DocFault};
-use port_core::{NoMemory, Seq, Text};
-use relayout_requests::{Asked, Edit, Load, Refusal, Request};
+use crate::edits::{Hindrance, insert_into, load_page, remove_from};
+use crate::page::Page;
+use crate::plain::is_plain_tree;
+use crate::replies::{push_error, push_ok, push_ok_nodes};
+use port_core::NoMemory;
+use relayout_requests::{Asked, Edit, Insert, Refusal, Request, Load};
 use std::alloc::Global;
 
 /// Carries out what a line asks for, and appends its reply. Where memory runs out, what is loaded stays as it was.
@@ -33,8 +35,37 @@ pub fn respond(
     match asked {
         Asked::Nothing => Ok(()),
         Asked::Broken(refusal) => push_error(reply, refusal),
-        Asked::Request(Request::Edit(Edit::Load(load))) => respond_load(alloc, state, load, reply),
+        Asked::Request(Request::Edit(edit)) => respond_edit(alloc, state, edit, reply),
         Asked::Request(Request::Dump) => respond_dump(state, reply),
+    }
+}
+
+/// Carries out an edit, or refuses it.
+fn respond_edit(
+    alloc: Global,
+    state: &mut Option<Page>,
+    edit: Edit,
+    reply: &mut String,
+) -> Result<(), NoMemory>
+    requires { string_bytes reply.old ≡ [] }
+    ensures reply { OnOk result (AnswersTo (state_view state.old) (request (an_edit (edit_view edit))) (string_bytes reply.new)) }
+    ensures state { OnOk result (state_view state.new ≡ left_by (state_view state.old) (judged (state_view state.old) (request (an_edit (edit_view edit))))) }
+    ensures kept { OnErr result (state.new ≡ state.old) }
+{
+    match edit {
+        Edit::Load(load) => respond_load(alloc, state, load, reply),
+        Edit::Insert(insert) => respond_insert(state, &insert, reply),
+        Edit::Remove(id) => respond_remove(state, id, reply),
+    }
+}
+
+/// Appends the line of a refusal, unless memory was wanting.
+fn push_hindrance(reply: &mut String, hindrance: Hindrance) -> Result<(), NoMemory>
+    ensures { OnOk result (IsTold hindrance (string_bytes reply.old) (string_bytes reply.new)) }
+{
+    match hindrance {
+        Hindrance::Refused(refusal) => push_error(reply, refusal),
+        Hindrance::NoMemory => Err(NoMemory),
     }
 }
 
@@ -46,79 +77,88 @@ fn respond_load(
     reply: &mut String,
 ) -> Result<(), NoMemory>
     requires { string_bytes reply.old ≡ [] }
-    ensures reply { OnOk result (AnswersTo (state_view state.old) (request (edit (load_view load))) (string_bytes reply.new)) }
-    ensures state { OnOk result (state_view state.new ≡ left_by (state_view state.old) (judged (state_view state.old) (request (edit (load_view load))))) }
+    ensures reply { OnOk result (AnswersTo (state_view state.old) (request (an_edit (load_view load))) (string_bytes reply.new)) }
+    ensures state { OnOk result (state_view state.new ≡ left_by (state_view state.old) (judged (state_view state.old) (request (an_edit (load_view load))))) }
     ensures kept { OnErr result (state.new ≡ state.old) }
 {
-    match check_load(&load) {
-        Ok(nodes) => carry_out_load(alloc, state, load, nodes, reply),
-        Err(refusal) => push_error(reply, refusal),
+    match load_page(alloc, load) {
+        Ok(page) => {
+            push_ok_nodes(reply, 0, page.document.next_id())?;
+            *state = Some(page);
+            Ok(())
+        }
+        Err(hindrance) => push_hindrance(reply, hindrance),
     }
 }
 
-/// How many nodes the document of a load has, or why it is refused.
+/// Carries out an insert, or refuses it.
 #[tactic(auto, unfolding(request_model::specs::States::refusal_of))]
-fn check_load(load: &Load) -> Result<u32, Refusal>
-    ensures accepted { IfOk result (λ nodes. (nodes ≡ size (shape load.now.doc)) × ((s : State) → refusal_of s (edit (load_view load.now)) ≡ None)) }
-    ensures refused { IfErr result (λ refusal. (s : State) → refusal_of s (edit (load_view load.now)) ≡ Some (refusal_view refusal)) }
-{
-    if load.width > MAX_SIDE || load.height > MAX_SIDE {
-        return Err(Refusal::NotBuilt);
-    }
-    if load.sheets.is_some() || !is_plain_tree(&load.doc) {
-        return Err(Refusal::NotBuilt);
-    }
-    if !is_within(&load.doc, MAX_DEPTH) {
-        return Err(Refusal::NotBuilt);
-    }
-    match room_after(&load.doc, MAX_NODES) {
-        Some(left) => Ok(MAX_NODES - left),
-        None => Err(Refusal::NotBuilt),
-    }
-}
-
-/// Carries out a load that is not refused, of so many nodes.
-fn carry_out_load(
-    alloc: Global,
+fn respond_insert(
     state: &mut Option<Page>,
-    load: Load,
-    nodes: u32,
+    insert: &Insert,
     reply: &mut String,
 ) -> Result<(), NoMemory>
-    requires empty { string_bytes reply.old ≡ [] }
-    requires counted { nodes ≡ size (shape load.doc) }
-    requires accepted { (s : State) → refusal_of s (edit (load_view load)) ≡ None }
-    ensures reply { OnOk result (string_bytes reply.new ≡ ok_nodes_line 0 (size (shape load.doc))) }
-    ensures state { OnOk result (state_view state.new ≡ edited (state_view state.old) (load_view load)) }
+    requires { string_bytes reply.old ≡ [] }
+    ensures reply { OnOk result (AnswersTo (state_view state.old) (request (an_edit (insert_view insert.now))) (string_bytes reply.new)) }
+    ensures state { OnOk result (state_view state.new ≡ left_by (state_view state.old) (judged (state_view state.old) (request (an_edit (insert_view insert.now))))) }
     ensures kept { OnErr result (state.new ≡ state.old) }
 {
-    let Load {
-        width,
-        height,
-        doc,
-        sheets,
-    } = load;
-    let document = match Doc::new(alloc, &doc) {
-        Ok(document) => document,
-        Err(DocFault::NoMemory) => return Err(NoMemory),
-    };
-    let viewport = Viewport { width, height };
-    push_ok_nodes(reply, 0, nodes)?;
-    *state = Some(Page {
-        document,
-        sheets: sheets_or_none(alloc, sheets),
-        viewport,
-    });
-    Ok(())
+    if !is_plain_tree(&insert.tree) {
+        return push_error(reply, Refusal::NotBuilt);
+    }
+    match state {
+        Some(page) => answer_insert(page, insert, reply),
+        None => push_error(reply, Refusal::NotLoaded),
+    }
 }
 
-/// The style sheets that were given, or none.
-fn sheets_or_none(alloc: Global, sheets: Option<Seq<Text>>) -> Seq<Text>
-    ensures { result ≡ unwrap_or sheets [] }
+/// Carries out an insert into a page, or refuses it. The reply is there before the document is changed, so that no memory is wanted afterwards.
+fn answer_insert(page: &mut Page, insert: &Insert, reply: &mut String) -> Result<(), NoMemory>
+    requires { string_bytes reply.old ≡ [] }
+    ensures reply { OnOk result (string_bytes reply.new ≡ line_unless (first_of (insert_refusals insert.now.parent insert.now.index (shape insert.now.tree) page.old.document)) (ok_nodes_line page.old.document.next_id (size (shape insert.now.tree)))) }
+    ensures page { OnOk result (page_view page.new ≡ unless (first_of (insert_refusals insert.now.parent insert.now.index (shape insert.now.tree) page.old.document)) (with_document (after_insert insert.now.parent insert.now.index (shape insert.now.tree)) (page_view page.old)) (page_view page.old)) }
+    ensures kept { OnErr result (page.new ≡ page.old) }
 {
-    match sheets {
-        Some(texts) => texts,
-        None => Seq::new(alloc),
+    push_ok_nodes(reply, page.document.next_id(), insert.tree.node_count())?;
+    settle(reply, insert_into(&mut page.document, insert))
+}
+
+/// Carries out a remove, or refuses it.
+#[tactic(auto, unfolding(request_model::specs::States::refusal_of))]
+fn respond_remove(state: &mut Option<Page>, id: u64, reply: &mut String) -> Result<(), NoMemory>
+    requires { string_bytes reply.old ≡ [] }
+    ensures reply { OnOk result (AnswersTo (state_view state.old) (request (an_edit (remove id))) (string_bytes reply.new)) }
+    ensures state { OnOk result (state_view state.new ≡ left_by (state_view state.old) (judged (state_view state.old) (request (an_edit (remove id))))) }
+    ensures kept { OnErr result (state.new ≡ state.old) }
+{
+    match state {
+        Some(page) => answer_remove(page, id, reply),
+        None => push_error(reply, Refusal::NotLoaded),
+    }
+}
+
+/// Carries out a remove on a page, or refuses it, with the reply first as well.
+fn answer_remove(page: &mut Page, id: u64, reply: &mut String) -> Result<(), NoMemory>
+    requires { string_bytes reply.old ≡ [] }
+    ensures reply { OnOk result (string_bytes reply.new ≡ line_unless (first_of (remove_refusals id page.old.document)) ok_line) }
+    ensures page { OnOk result (page_view page.new ≡ unless (first_of (remove_refusals id page.old.document)) (with_document (after_remove id) (page_view page.old)) (page_view page.old)) }
+    ensures kept { OnErr result (page.new ≡ page.old) }
+{
+    push_ok(reply)?;
+    settle(reply, remove_from(&mut page.document, id))
+}
+
+/// Keeps the reply to an edit that was carried out, and puts the line of a refusal in its place where it was not.
+fn settle(reply: &mut String, outcome: Result<(), Hindrance>) -> Result<(), NoMemory>
+    ensures settled { OnOk result (IsSettled outcome (string_bytes reply.old) (string_bytes reply.new)) }
+    ensures hindered { OnErr result (is_ok outcome ≡ false) }
+{
+    match outcome {
+        Ok(()) => Ok(()),
+        Err(hindrance) => {
+            reply.clear();
+            push_hindrance(reply, hindrance)
+        }
     }
 }
 

@@ -165,7 +165,7 @@ fn whole_documents_are_dumped(rt: HostRuntime) -> Result<(), Fail> {
 
 #[test]
 fn refusals_name_their_cause(rt: HostRuntime) -> Result<(), Fail> {
-    let table: [(&[u8], &[u8]); 13] = [
+    let table: [(&[u8], &[u8]); 17] = [
         (b"{\"do\":\"dump\"}", b"error 4 not-loaded\n"),
         (b"{\"do\":\"fly\",\"do\":\"dump\"}", b"error 4 not-loaded\n"),
         (b"{", b"error 1 bad-json\n"),
@@ -177,14 +177,24 @@ fn refusals_name_their_cause(rt: HostRuntime) -> Result<(), Fail> {
         ),
         (b"{\"do\":\"fly\"}", b"error 2 bad-request\n"),
         (b"{\"do\":\"dump\",\"at\":1}", b"error 2 bad-request\n"),
-        (b"{\"do\":\"insert\"}", b"error 21 not-built\n"),
+        (b"{\"do\":\"insert\"}", b"error 2 bad-request\n"),
+        (b"{\"do\":\"resize\"}", b"error 21 not-built\n"),
+        (b"{\"do\":\"remove\",\"id\":0}", b"error 4 not-loaded\n"),
+        (
+            b"{\"do\":\"insert\",\"parent\":0,\"index\":0,\"tree\":[\"div\"]}",
+            b"error 4 not-loaded\n",
+        ),
+        (
+            b"{\"do\":\"insert\",\"parent\":0,\"index\":0,\"tree\":\"text\"}",
+            b"error 21 not-built\n",
+        ),
         (
             b"{\"do\":\"load\",\"width\":10,\"height\":20,\"doc\":[\"p\"]}",
             b"error 21 not-built\n",
         ),
         (
             b"{\"do\":\"load\",\"width\":10001,\"height\":20,\"doc\":[\"div\"]}",
-            b"error 21 not-built\n",
+            b"error 16 viewport-range\n",
         ),
         (
             b"{\"do\":\"load\",\"width\":1,\"height\":1,\"doc\":[\"div\",\"text\"]}",
@@ -222,7 +232,7 @@ fn numbers_are_written_in_digits_alone(rt: HostRuntime) -> Result<(), Fail> {
         (b"-0", b"error 2 bad-request\n"),
         (b"1.0", b"error 2 bad-request\n"),
         (b"1e0", b"error 2 bad-request\n"),
-        (b"18446744073709551615", b"error 21 not-built\n"),
+        (b"18446744073709551615", b"error 16 viewport-range\n"),
         (b"18446744073709551616", b"error 2 bad-request\n"),
         (b"1e400", b"error 1 bad-json\n"),
     ];
@@ -268,14 +278,14 @@ fn limits_of_a_document_are_exact(rt: HostRuntime) -> Result<(), Fail> {
     let widest = wide(rt.alloc(), 19_999)?;
     expect_replies(&rt, rt.alloc(), widest.as_slice(), b"ok 0 20000\n")?;
     let wider = wide(rt.alloc(), 20_000)?;
-    expect_replies(&rt, rt.alloc(), wider.as_slice(), b"error 21 not-built\n")?;
+    expect_replies(&rt, rt.alloc(), wider.as_slice(), b"error 12 node-limit\n")?;
     let deepest = deep(rt.alloc(), 95)?;
     expect_replies(&rt, rt.alloc(), deepest.as_slice(), b"ok 0 96\n")?;
     let deeper = deep(rt.alloc(), 96)?;
-    expect_replies(&rt, rt.alloc(), deeper.as_slice(), b"error 21 not-built\n")?;
+    expect_replies(&rt, rt.alloc(), deeper.as_slice(), b"error 13 depth-limit\n")?;
     // The document stands in the object of the request, so the JSON nests one level deeper.
     let nested = deep(rt.alloc(), 125)?;
-    expect_replies(&rt, rt.alloc(), nested.as_slice(), b"error 21 not-built\n")?;
+    expect_replies(&rt, rt.alloc(), nested.as_slice(), b"error 13 depth-limit\n")?;
     let too_nested = deep(rt.alloc(), 126 + 1)?;
     expect_replies(
         &rt,
@@ -317,5 +327,87 @@ fn other_words_are_told_the_usage(rt: HostRuntime) -> Result<(), Fail> {
         sink.bytes(),
         b"usage: relayout [--gen N] [--profile 1|2]\n".as_slice()
     );
+    Ok(())
+}
+
+/// Adds an insert of this tree to a script.
+fn add_insert(
+    script: &mut Vec<u8>,
+    parent: &[u8],
+    index: &[u8],
+    tree: &[u8],
+) -> Result<(), NoMemory> {
+    script.extend_from_slice(b"{\"do\":\"insert\",\"parent\":")?;
+    script.extend_from_slice(parent)?;
+    script.extend_from_slice(b",\"index\":")?;
+    script.extend_from_slice(index)?;
+    script.extend_from_slice(b",\"tree\":")?;
+    script.extend_from_slice(tree)?;
+    script.extend_from_slice(b"}\n")
+}
+
+/// Adds a remove to a script.
+fn add_remove(script: &mut Vec<u8>, id: &[u8]) -> Result<(), NoMemory> {
+    script.extend_from_slice(b"{\"do\":\"remove\",\"id\":")?;
+    script.extend_from_slice(id)?;
+    script.extend_from_slice(b"}\n")
+}
+
+#[test]
+fn ids_go_on_after_a_remove(rt: HostRuntime) -> Result<(), Fail> {
+    let mut script = Vec::from_slice(rt.alloc(), LOAD_ONE)?;
+    add_insert(&mut script, b"0", b"0", b"[\"div\",[\"div\"]]")?;
+    add_remove(&mut script, b"1")?;
+    add_remove(&mut script, b"2")?;
+    add_insert(&mut script, b"0", b"0", b"[\"div\",[\"div\"]]")?;
+    add_remove(&mut script, b"0")?;
+    add_insert(&mut script, b"4", b"1", b"[\"div\"]")?;
+    add_insert(&mut script, b"0", b"0", b"[\"div\"]")?;
+    add_insert(&mut script, b"0", b"2", b"[\"div\"]")?;
+    add_insert(&mut script, b"0", b"1", b"[\"div\"]")?;
+    script.extend_from_slice(DUMP)?;
+    let replies: &[u8] = b"ok 0 1\nok 1 2\nok\nerror 5 no-node\nok 3 2\nerror 8 is-root\n\
+error 10 bad-index\nok 5 1\nok 6 1\nok 7 1\nbox 0 div 0 0 51200 0 51200 0\n\
+box 5 div 0 0 51200 0 51200 0\nbox 7 div 0 0 51200 0 51200 0\n\
+box 3 div 0 0 51200 0 51200 0\nbox 4 div 0 0 51200 0 51200 0\n\
+box 6 div 0 0 51200 0 51200 0\nok\n";
+    expect_replies(&rt, rt.alloc(), script.as_slice(), replies)?;
+    Ok(())
+}
+
+#[test]
+fn numbers_of_requests_are_not_cut(rt: HostRuntime) -> Result<(), Fail> {
+    let mut script = Vec::from_slice(rt.alloc(), LOAD_ONE)?;
+    add_insert(&mut script, b"0", b"0", b"[\"div\"]")?;
+    add_remove(&mut script, b"4294967296")?;
+    add_remove(&mut script, b"4294967297")?;
+    add_remove(&mut script, b"18446744073709551615")?;
+    add_insert(&mut script, b"4294967297", b"9", b"[\"div\"]")?;
+    add_insert(&mut script, b"1", b"4294967296", b"[\"div\"]")?;
+    add_insert(&mut script, b"1", b"18446744073709551615", b"[\"div\"]")?;
+    let replies: &[u8] = b"ok 0 1\nok 1 1\nerror 5 no-node\nerror 5 no-node\n\
+error 5 no-node\nerror 5 no-node\nerror 10 bad-index\nerror 10 bad-index\n";
+    expect_replies(&rt, rt.alloc(), script.as_slice(), replies)?;
+    Ok(())
+}
+
+#[test]
+fn limits_of_an_insert_are_exact(rt: HostRuntime) -> Result<(), Fail> {
+    let mut script = wide(rt.alloc(), 19_998)?;
+    script.push(b'\n')?;
+    add_insert(&mut script, b"0", b"0", b"[\"div\",[\"div\"]]")?;
+    add_insert(&mut script, b"0", b"0", b"[\"div\"]")?;
+    add_insert(&mut script, b"0", b"0", b"[\"div\"]")?;
+    add_remove(&mut script, b"1")?;
+    add_insert(&mut script, b"0", b"0", b"[\"div\"]")?;
+    let deepest = deep(rt.alloc(), 95)?;
+    script.extend_from_slice(deepest.as_slice())?;
+    script.push(b'\n')?;
+    add_insert(&mut script, b"95", b"0", b"[\"div\"]")?;
+    add_insert(&mut script, b"94", b"1", b"[\"div\",[\"div\"]]")?;
+    add_insert(&mut script, b"94", b"1", b"[\"div\"]")?;
+    let replies: &[u8] = b"ok 0 19999\nerror 12 node-limit\nok 19999 1\nerror 12 node-limit\nok\nok 20000 1\n\
+ok 0 96\nerror 13 depth-limit\nerror 13 depth-limit\nok 96 1\n";
+    expect_replies(&rt, rt.alloc(), script.as_slice(), replies)?;
     Ok(())
 }

@@ -1,12 +1,12 @@
 ghost use Rattle.std.specs.Prelude.{◌≡◌, Some, IfOk, option_map, codes};
 ghost use Rattle.serde_json.specs.View.{view};
-ghost use Rattle.request_model.specs.Requests.{asked_of, is_one_of, is_not_built, names_not_built, request_named, request_of, load_of, dump_of, doc_at, texts_at};
+ghost use Rattle.request_model.specs.Requests.{asked_of, is_one_of, is_not_built, names_not_built, request_named, request_of, load_of, insert_of, remove_of, dump_of, doc_at, tree_at, texts_at};
 ghost use Rattle.dom_arena.specs.Shape.{shape};
 ghost use Rattle.relayout_requests.specs.Views.{asked_view, request_view};
 
 use crate::members::{count_members, number_of, string_of, texts_in};
 use crate::refusal::Refusal;
-use crate::request::{Asked, Edit, Load, Request};
+use crate::request::{Asked, Edit, Insert, Load, Request};
 use dom_arena::Tree;
 use jsonml_reader::{TreeFault, read_tree};
 use port_core::{NoMemory, Seq, Text};
@@ -43,9 +43,7 @@ fn is_name_not_built(name: &str) -> bool
 {
     matches!(
         name,
-        "insert"
-            | "remove"
-            | "sheet"
+        "sheet"
             | "rules"
             | "match"
             | "style"
@@ -75,6 +73,10 @@ fn read_named(alloc: Global, name: &str, value: &Value) -> Result<Option<Request
 {
     if name == "load" {
         read_load(alloc, value)
+    } else if name == "insert" {
+        read_insert(alloc, value)
+    } else if name == "remove" {
+        Ok(read_remove(value))
     } else if name == "dump" {
         Ok(read_dump(value))
     } else {
@@ -118,18 +120,59 @@ fn read_load(alloc: Global, value: &Value) -> Result<Option<Request>, NoMemory>
     }))))
 }
 
-/// The document of a load, or nothing where its member is none.
-fn read_doc(alloc: Global, value: &Value) -> Result<Option<Tree>, NoMemory>
-    ensures { IfOk result (λ doc. option_map shape doc ≡ doc_at (codes "doc") (view value.now)) }
+#[tactic(auto, unfolding(request_model::specs::Requests::insert_of))]
+fn read_insert(alloc: Global, value: &Value) -> Result<Option<Request>, NoMemory>
+    ensures { IfOk result (λ q. option_map request_view q ≡ insert_of (view value.now)) }
 {
-    let Some(member) = value.get("doc") else {
+    let (Some(parent), Some(index)) = (number_of(value, "parent"), number_of(value, "index")) else {
+        return Ok(None);
+    };
+    let Some(tree) = read_member(alloc, value, "tree")? else {
+        return Ok(None);
+    };
+    if count_members(value) != 4 {
+        return Ok(None);
+    }
+    Ok(Some(Request::Edit(Edit::Insert(Insert {
+        parent,
+        index,
+        tree,
+    }))))
+}
+
+#[tactic(auto, unfolding(request_model::specs::Requests::remove_of))]
+fn read_remove(value: &Value) -> Option<Request>
+    ensures { option_map request_view result ≡ remove_of (view value.now) }
+{
+    let id = number_of(value, "id")?;
+    if count_members(value) == 2 {
+        Some(Request::Edit(Edit::Remove(id)))
+    } else {
+        None
+    }
+}
+
+/// The tree that a member is, or nothing where it is none.
+fn read_member(alloc: Global, value: &Value, key: &str) -> Result<Option<Tree>, NoMemory>
+    ensures { IfOk result (λ tree. option_map shape tree ≡ tree_at key.now (view value.now)) }
+{
+    let Some(member) = value.get(key) else {
         return Ok(None);
     };
     match read_tree(alloc, member) {
-        Ok(Tree::Chars(_)) => Ok(None),
         Ok(tree) => Ok(Some(tree)),
         Err(TreeFault::Shape) => Ok(None),
         Err(TreeFault::NoMemory) => Err(NoMemory),
+    }
+}
+
+/// The document of a load, or nothing where its member is no element.
+fn read_doc(alloc: Global, value: &Value) -> Result<Option<Tree>, NoMemory>
+    ensures { IfOk result (λ doc. option_map shape doc ≡ doc_at (codes "doc") (view value.now)) }
+{
+    match read_member(alloc, value, "doc")? {
+        Some(Tree::Chars(_)) => Ok(None),
+        doc => Ok(doc),
     }
 }
 

@@ -11,4 +11,4 @@ mod tests;
 
 pub use line::ask;
 pub use refusal::Refusal;
-pub use request::{Asked, Edit, Load, Request};
+pub use request::{Asked, Edit, Insert, Load, Request};

@@ -11,10 +11,21 @@ pub struct Load {
     pub sheets: Option<Seq<Text>>,
 }
 
+/// An insert: the number of the parent, how many of its children stand before the new one, and the new tree.
+#[derive(Debug, Drop)]
+pub struct Insert {
+    pub parent: u64,
+    pub index: u64,
+    pub tree: Tree,
+}
+
 /// A request that may change what is loaded.
 #[derive(Debug, Drop)]
 pub enum Edit {
     Load(Load),
+    Insert(Insert),
+    /// A remove: the number of the node that goes, with all below it.
+    Remove(u64),
 }
 
 /// A request in the grammar.

@@ -1,5 +1,6 @@
 //! What lines ask for: each kind of answer once.
 use crate::{Asked, Edit, Refusal, Request, ask};
+use dom_arena::Tree;
 use port_core::NoMemory;
 use std::alloc::Global;
 use std::process::Abort;
@@ -29,6 +30,17 @@ fn is_load_of_two_sheets(asked: &Asked) -> bool {
     }
 }
 
+/// Whether an insert of a text was asked for, at the place 3 of the node 2.
+fn is_insert_of_text(asked: &Asked) -> bool {
+    match asked {
+        Asked::Request(Request::Edit(Edit::Insert(insert))) => {
+            let text = matches!(&insert.tree, Tree::Chars(_));
+            insert.parent == 2 && insert.index == 3 && text
+        }
+        _ => false,
+    }
+}
+
 #[test]
 fn lines_ask(rt: HostRuntime) -> Result<(), Fail> {
     let blank = ask(rt.alloc(), b" \t\r")?;
@@ -39,6 +51,14 @@ fn lines_ask(rt: HostRuntime) -> Result<(), Fail> {
         b"{\"do\":\"load\",\"height\":3,\"width\":2,\"doc\":[\"a\"],\"sheets\":[\"p{}\",\"\"]}";
     let load = ask(rt.alloc(), line)?;
     assert!(rt; is_load_of_two_sheets(&load));
+    let line = b"{\"do\":\"insert\",\"tree\":\"\",\"index\":3,\"parent\":2}";
+    let insert = ask(rt.alloc(), line)?;
+    assert!(rt; is_insert_of_text(&insert));
+    let remove = ask(
+        rt.alloc(),
+        b"{\"id\":18446744073709551615,\"do\":\"remove\"}",
+    )?;
+    assert!(rt; matches!(&remove, Asked::Request(Request::Edit(Edit::Remove(id))) if *id == u64::MAX));
     Ok(())
 }
 
@@ -46,6 +66,18 @@ fn lines_ask(rt: HostRuntime) -> Result<(), Fail> {
 fn refusals_have_numbers_and_names(rt: HostRuntime) -> Result<(), Fail> {
     expect_broken(&rt, rt.alloc(), b"{", Refusal::BadJson)?;
     expect_broken(&rt, rt.alloc(), b"{\"do\":\"fly\"}", Refusal::BadRequest)?;
+    expect_broken(
+        &rt,
+        rt.alloc(),
+        b"{\"do\":\"remove\",\"id\":1,\"x\":1}",
+        Refusal::BadRequest,
+    )?;
+    expect_broken(
+        &rt,
+        rt.alloc(),
+        b"{\"do\":\"insert\",\"parent\":0,\"index\":0}",
+        Refusal::BadRequest,
+    )?;
     expect_broken(
         &rt,
         rt.alloc(),

@@ -1,7 +1,7 @@
 use Rattle.std.specs.Str.{chars}
 use Rattle.std.proofs.lemmas.Bool.Decides.{same_from_decides}
 use Rattle.std.proofs.lemmas.Slice.Eq.{bytes_eq-Decides}
-use Rattle.relayout_cli.proofs.limits.is_div.Goals as goal
+use Rattle.relayout_cli.proofs.plain.is_div.Goals as goal
 
 pub returns : goal.returns
 unfolding chars
