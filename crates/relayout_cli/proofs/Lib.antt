@@ -1,6 +1,7 @@
 pub mod WalkLemmas
 pub mod ReplyLemmas
 pub mod DumpLemmas
+pub mod CutLemmas
 pub mod ServeLemmas
 pub mod NumberLemmas
 pub mod EditLemmas

@@ -3,21 +3,22 @@ use Rattle.std.proofs.Common.{◌≤◌, take, length-append, inl, inr, ◌≡�
 use Rattle.std.proofs.Math.Seq.{take-append-add}
 use Rattle.std.proofs.lemmas.Bool.{lt-ltb}
 use Rattle.stream_model.specs.Streams.{FromTo, Appends, AppendsPart, Grew, TakesCount, NothingLeft}
-use Rattle.stream_model.specs.Lines.{lines, max_line}
+use Rattle.stream_model.specs.Lines.{newline, lines, max_line, whole_lines, IsUnbroken}
 use Rattle.stream_model.specs.Ledger.{Event, Log, pairs, events, mark}
 use Rattle.page_model.specs.Pages.{State}
 use Rattle.page_model.specs.Refusals.{line_too_long}
 use Rattle.request_model.specs.Requests.{Asked, broken, asked}
 use Rattle.request_model.specs.States.{answer, judged, left_by, next, asks_edit}
 use Rattle.reply_model.specs.Replies.{Course, start, AreReplies, Replies, IsReply, Moves, AreLogsOf, latest}
-use Rattle.port_core.specs.Reader.{Reader, ahead, Gives, CountsFaults}
+use Rattle.port_core.specs.Reader.{Reader, ahead, Gives, CountsFaults, IsFirstLine, EndsLine}
 use Rattle.port_core.specs.declared.reader.Line.{Line}
 use Rattle.port_core.specs.declared.reader.Line.TheVariants.{TooLong, End}
 use Rattle.port_core.proofs.StreamLemmas.{FromTo-joins, FromTo-weaker, Grew-joins, TakesCount-joins}
-use Rattle.relayout_cli.specs.Runs.{the_setting, AnswersTo, Served, IsWritten, IsLogged, BeginsReplies, Wrote, LogsOnce, AllOnce, FaultsBy, TakenBy, IsUntroubled, HasFewer, IsDoneButForMemory}
+use Rattle.relayout_cli.specs.Runs.{the_setting, AnswersTo, Served, ServedWhole, IsWritten, IsLogged, BeginsReplies, Wrote, LogsOnce, AllOnce, FaultsBy, TakenBy, IsUntroubled, HasFewer, IsDoneButForMemory}
 use Rattle.relayout_cli.specs.declared.status.Status.{Status}
 use Rattle.relayout_cli.specs.declared.status.Status.TheVariants.{Done, BadWords, ReadFault, WriteFault, NoMemory, InputSpent}
 use Rattle.relayout_cli.specs.Coming.{ReadsOn}
+use Rattle.relayout_cli.proofs.CutLemmas.{AreWhole, AreWhole-none, AreWhole-more, AreWhole-part}
 use Rattle.relayout_cli.specs.Turns.{own_logs}
 
 -- ---- ledgers
@@ -47,23 +48,29 @@ LogsOnce-more es es1 es2 b l e = (
 -- ---- lines answered so far
 
 -- Of the lines of all bytes some were answered, and those of the rest are still to be: what was appended and logged so far, with any replies and logs of later lines behind it, is what those lines and the later ones have.
-pub record Answered (all rest old new : List ℕ) (es es' : List Event) (s : State) : Type 0 where
+pub record Answered (all rest old new : List ℕ) (es es' : List Event) (s : State) (stopped : Option Line) : Type 0 where
+  pub before : List ℕ
   pub done : List (List ℕ)
   pub logs : List Log
   pub text : List ℕ
   pub last : Log
+  pub joins : all ≡ before ++ rest
+  pub whole : stopped ≡ None → AreWhole before done
   pub cut : lines all ≡ done ++ lines rest
   pub goes_on : (later : List (List ℕ)) (logs' : List Log) (text' : List ℕ) → AreReplies the_setting (record { state = s; last = last }) later logs' text'
       → AreReplies the_setting start (done ++ later) (logs ++ logs') (text ++ text')
   pub appended : new ≡ old ++ text
   pub logged : es' ≡ es ++ events logs
 
-pub Answered-start : (all old : List ℕ) (es : List Event) → Answered all all old old es es None
+pub Answered-start : (all old : List ℕ) (es : List Event) → Answered all all old old es es None None
 Answered-start all old es = record {
+  before = [];
   done = [];
   logs = [];
   text = [];
   last = [];
+  joins = refl;
+  whole = λ _. AreWhole-none;
   cut = refl;
   goes_on = λ later logs' text' h. h;
   appended = sym (append-nil old);
@@ -95,19 +102,37 @@ line-first from line reply s' told is later logs' text' h = (
   h,
 )
 
+-- what ends a line, where the source goes on
+abbrev pub line_end : Option Line → List ℕ
+line_end None = newline ∷ []
+line_end (Some stop) = []
+
+joins-more : (all before mid line rest : List ℕ) (stopped : Option Line) → all ≡ before ++ mid → EndsLine line stopped mid rest → all ≡ (before ++ (line ++ line_end stopped)) ++ rest
+joins-more all before mid line rest None e ends =
+    e ∙ (ap (λ (x : List ℕ). before ++ x) (ends ∙ sym (append_assoc line (newline ∷ []) rest)) ∙ sym (append_assoc before (line ++ newline ∷ []) rest))
+joins-more all before mid line rest (Some stop) e ends =
+    e ∙ (ap (λ (x : List ℕ). before ++ x) ends.2 ∙ rw (ends.3, append-nil line, append-nil (before ++ line)) refl)
+
+whole-more : (before line : List ℕ) (done : List (List ℕ)) (stopped : Option Line) → AreWhole before done → IsUnbroken line → stopped ≡ None → AreWhole (before ++ (line ++ line_end stopped)) (done ++ line ∷ [])
+whole-more before line done None w u e = AreWhole-more before line done w u
+whole-more before line done (Some stop) w u e = absurd (cc)
+
 -- one more line was answered
-pub Answered-more : (all mid rest old new new' : List ℕ) (es es1 es2 : List Event) (s s' : State) (line reply : List ℕ)
-    → Answered all mid old new es es1 s → lines mid ≡ line ∷ lines rest → AnswersTo s (asked line) reply → s' ≡ left_by s (judged s (asked line))
+pub Answered-more : (all mid rest old new new' : List ℕ) (es es1 es2 : List Event) (s s' : State) (stopped stopped' : Option Line) (line reply : List ℕ)
+    → Answered all mid old new es es1 s stopped → stopped ≡ None → IsFirstLine line stopped' mid rest → AnswersTo s (asked line) reply → s' ≡ left_by s (judged s (asked line))
     → new' ≡ new ++ reply → es2 ≡ es1 ++ events (own_logs (asks_edit (asked line)))
-    → Answered all rest old new' es es2 s'
-Answered-more all mid rest old new new' es es1 es2 s s' line reply a first told is push log =
+    → Answered all rest old new' es es2 s' stopped'
+Answered-more all mid rest old new new' es es1 es2 s s' stopped stopped' line reply a going first told is push log =
     let own : List Log = own_logs (asks_edit (asked line)) in
     record {
+      before = a.before ++ (line ++ line_end stopped');
       done = a.done ++ line ∷ [];
       logs = a.logs ++ own;
       text = a.text ++ reply;
       last = latest (answer s line) own a.last;
-      cut = a.cut ∙ (ap (λ (ls : List (List ℕ)). a.done ++ ls) first ∙ sym (append_assoc a.done (line ∷ []) (lines rest)));
+      joins = joins-more all a.before mid line rest stopped' a.joins first.ends;
+      whole = whole-more a.before line a.done stopped' (a.whole going) first.unbroken;
+      cut = a.cut ∙ (ap (λ (ls : List (List ℕ)). a.done ++ ls) first.first ∙ sym (append_assoc a.done (line ∷ []) (lines rest)));
       goes_on = λ later logs' text' h. rw (append_assoc a.done (line ∷ []) later, append_assoc a.logs own logs', append_assoc a.text reply text')
           (a.goes_on (line ∷ later) (own ++ logs') (reply ++ text') (line-first (record { state = s; last = a.last }) line reply s' told is later logs' text' h));
       appended = push ∙ (ap (λ (x : List ℕ). x ++ reply) a.appended ∙ append_assoc old a.text reply);
@@ -121,24 +146,24 @@ FromTo-self None R f = tt
 FromTo-self (Some x) R f = f x
 
 -- the lines of what the source had and is no longer ahead were answered to the sink
-abbrev pub Told : Option (List ℕ) → Option (List ℕ) → Option (List ℕ) → Option (List ℕ) → List Event → List Event → State → Type 0
-Told left left' held held' es es' s = FromTo left left' (λ all rest. FromTo held held' (λ old new. Answered all rest old new es es' s))
+abbrev pub Told : Option (List ℕ) → Option (List ℕ) → Option (List ℕ) → Option (List ℕ) → List Event → List Event → State → Option Line → Type 0
+Told left left' held held' es es' s stopped = FromTo left left' (λ all rest. FromTo held held' (λ old new. Answered all rest old new es es' s stopped))
 
-pub Told-start : (left held : Option (List ℕ)) (es : List Event) → Told left (ahead [] left) held held es es None
+pub Told-start : (left held : Option (List ℕ)) (es : List Event) → Told left (ahead [] left) held held es es None None
 Told-start None held es = tt
-Told-start (Some all) held es = FromTo-self held (λ old new. Answered all all old new es es None) (λ old. Answered-start all old es)
+Told-start (Some all) held es = FromTo-self held (λ old new. Answered all all old new es es None None) (λ old. Answered-start all old es)
 
-pub Told-more : (left mid left' held held1 held2 : Option (List ℕ)) (es es1 es2 : List Event) (s s' : State) (a : Asked)
-    → Told left mid held held1 es es1 s
-    → FromTo mid left' (λ all rest. (line : List ℕ) × (lines all ≡ line ∷ lines rest) × (asked line ≡ a))
+pub Told-more : (left mid left' held held1 held2 : Option (List ℕ)) (es es1 es2 : List Event) (s s' : State) (stopped stopped' : Option Line) (a : Asked)
+    → Told left mid held held1 es es1 s stopped → stopped ≡ None
+    → FromTo mid left' (λ all rest. (line : List ℕ) × IsFirstLine line stopped' all rest × (asked line ≡ a))
     → s' ≡ left_by s (judged s a) → ((reply : List ℕ) × AnswersTo s a reply × Appends held1 held2 reply) → es2 ≡ es1 ++ events (own_logs (asks_edit a))
-    → Told left left' held held2 es es2 s'
-Told-more left mid left' held held1 held2 es es1 es2 s s' a told read is reply log =
-    FromTo-joins left mid left' (λ all rest. FromTo held held1 (λ old new. Answered all rest old new es es1 s))
-    (λ all rest. (line : List ℕ) × (lines all ≡ line ∷ lines rest) × (asked line ≡ a))
-    (λ all rest. FromTo held held2 (λ old new. Answered all rest old new es es2 s'))
-    (λ all middle rest answered first. FromTo-joins held held1 held2 (λ old new. Answered all middle old new es es1 s) (λ old new. new ≡ old ++ reply.0) (λ old new. Answered all rest old new es es2 s')
-    (λ old new new' so_far push. Answered-more all middle rest old new new' es es1 es2 s s' first.0 reply.0 so_far first.1
+    → Told left left' held held2 es es2 s' stopped'
+Told-more left mid left' held held1 held2 es es1 es2 s s' stopped stopped' a told going read is reply log =
+    FromTo-joins left mid left' (λ all rest. FromTo held held1 (λ old new. Answered all rest old new es es1 s stopped))
+    (λ all rest. (line : List ℕ) × IsFirstLine line stopped' all rest × (asked line ≡ a))
+    (λ all rest. FromTo held held2 (λ old new. Answered all rest old new es es2 s' stopped'))
+    (λ all middle rest answered first. FromTo-joins held held1 held2 (λ old new. Answered all middle old new es es1 s stopped) (λ old new. new ≡ old ++ reply.0) (λ old new. Answered all rest old new es es2 s' stopped')
+    (λ old new new' so_far push. Answered-more all middle rest old new new' es es1 es2 s s' stopped stopped' first.0 reply.0 so_far going first.1
     (subst (λ (b : Asked). AnswersTo s b reply.0) (sym first.2) reply.1) (rw first.2 is) push (rw first.2 log)) answered reply.2) told read
 
 AreReplies-none : (from : Course) → AreReplies the_setting from [] [] []
@@ -146,23 +171,23 @@ unfolding AreReplies
 AreReplies-none from = (refl, refl)
 
 -- all lines were answered
-Answered-all : (all mid rest : List ℕ) (held held' : Option (List ℕ)) (es es' : List Event) (s : State) → FromTo held held' (λ old new. Answered all mid old new es es' s) → mid ≡ [] → rest ≡ []
+Answered-all : (all mid rest : List ℕ) (held held' : Option (List ℕ)) (es es' : List Event) (s : State) (stopped : Option Line) → FromTo held held' (λ old new. Answered all mid old new es es' s stopped) → mid ≡ [] → rest ≡ []
     → (rest ≡ []) × FromTo held held' (λ old new. (logs : List Log) × (text : List ℕ) × Replies the_setting (lines all) logs text × (new ≡ old ++ text) × (es' ≡ es ++ events logs))
-Answered-all all mid rest None None es es' s a e f = (f, tt)
-Answered-all all mid rest (Some old) (Some new) es es' s a e f =
+Answered-all all mid rest None None es es' s stopped a e f = (f, tt)
+Answered-all all mid rest (Some old) (Some new) es es' s stopped a e f =
     let done : a.done ≡ lines all = sym (a.cut ∙ (ap (λ (bytes : List ℕ). a.done ++ lines bytes) e ∙ append-nil a.done)) in
     let replies : AreReplies the_setting start a.done a.logs a.text =
     rw (← append-nil a.done, ← append-nil a.logs, ← append-nil a.text) (a.goes_on [] [] [] (AreReplies-none (record { state = s; last = a.last }))) in
     (f, (a.logs, a.text, subst (λ (ls : List (List ℕ)). AreReplies the_setting start ls a.logs a.text) done replies, a.appended, a.logged))
-Answered-all all mid rest None (Some new) es es' s a e f = absurd a
-Answered-all all mid rest (Some old) None es es' s a e f = absurd a
+Answered-all all mid rest None (Some new) es es' s stopped a e f = absurd a
+Answered-all all mid rest (Some old) None es es' s stopped a e f = absurd a
 
-pub Told-all : (left mid left' held held' : Option (List ℕ)) (es es' : List Event) (s : State)
-    → Told left mid held held' es es' s → FromTo mid left' (λ all rest. (all ≡ []) × (rest ≡ [])) → Served left left' held held' es es'
-Told-all left mid left' held held' es es' s told end =
-    FromTo-joins left mid left' (λ all rest. FromTo held held' (λ old new. Answered all rest old new es es' s)) (λ all rest. (all ≡ []) × (rest ≡ []))
+pub Told-all : (left mid left' held held' : Option (List ℕ)) (es es' : List Event) (s : State) (stopped : Option Line)
+    → Told left mid held held' es es' s stopped → FromTo mid left' (λ all rest. (all ≡ []) × (rest ≡ [])) → Served left left' held held' es es'
+Told-all left mid left' held held' es es' s stopped told end =
+    FromTo-joins left mid left' (λ all rest. FromTo held held' (λ old new. Answered all rest old new es es' s stopped)) (λ all rest. (all ≡ []) × (rest ≡ []))
     (λ all rest. (rest ≡ []) × FromTo held held' (λ old new. (logs : List Log) × (text : List ℕ) × Replies the_setting (lines all) logs text × (new ≡ old ++ text) × (es' ≡ es ++ events logs)))
-    (λ all middle rest answered nothing_left. Answered-all all middle rest held held' es es' s answered nothing_left.0 nothing_left.1) told end
+    (λ all middle rest answered nothing_left. Answered-all all middle rest held held' es es' s stopped answered nothing_left.0 nothing_left.1) told end
 
 -- ---- long lines
 
@@ -172,10 +197,10 @@ too-long line h = rw (lt-ltb max_line (length line) h) refl
 
 -- a line that is too long is asked nothing of
 pub asks-too_long : (ahead ahead' : Option (List ℕ)) (kept : List ℕ) (stopped : Option Line)
-    → FromTo ahead ahead' (Gives TooLong kept stopped) → FromTo ahead ahead' (λ all rest. (line : List ℕ) × (lines all ≡ line ∷ lines rest) × (asked line ≡ broken line_too_long))
+    → FromTo ahead ahead' (Gives TooLong kept stopped) → FromTo ahead ahead' (λ all rest. (line : List ℕ) × IsFirstLine line stopped all rest × (asked line ≡ broken line_too_long))
 asks-too_long ahead ahead' kept stopped f =
-    FromTo-weaker ahead ahead' (Gives TooLong kept stopped) (λ all rest. (line : List ℕ) × (lines all ≡ line ∷ lines rest) × (asked line ≡ broken line_too_long))
-    (λ all rest g. (g.0, g.1.first, too-long g.0 g.2)) f
+    FromTo-weaker ahead ahead' (Gives TooLong kept stopped) (λ all rest. (line : List ℕ) × IsFirstLine line stopped all rest × (asked line ≡ broken line_too_long))
+    (λ all rest g. (g.0, g.1, too-long g.0 g.2)) f
 
 -- a fact of a reader that has not stopped
 pub at-none : (o : Option Line) (P : Type 0) → o ≡ None → IfNone o P → P
@@ -231,32 +256,32 @@ complete-by InputSpent f f' g g' (Some x) None t t' faults taken words calm few 
 
 -- ---- what was written however a run ends
 
-replies-done : (all rest old new : List ℕ) (es es' : List Event) (s : State) (a : Answered all rest old new es es' s) → AreReplies the_setting start a.done a.logs a.text
-replies-done all rest old new es es' s a =
+replies-done : (all rest old new : List ℕ) (es es' : List Event) (s : State) (stopped : Option Line) (a : Answered all rest old new es es' s stopped) → AreReplies the_setting start a.done a.logs a.text
+replies-done all rest old new es es' s stopped a =
     rw (← append-nil a.done, ← append-nil a.logs, ← append-nil a.text) (a.goes_on [] [] [] (AreReplies-none (record { state = s; last = a.last })))
 
-BeginsReplies-answered : (status : Status) (all rest old new : List ℕ) (es es1 es' : List Event) (s : State) → ((text : List ℕ) → IsWritten status text text)
-    → ((logs : List Log) → es1 ≡ es ++ events logs → IsLogged status logs es es') → Answered all rest old new es es1 s → BeginsReplies status all es es' old new
-BeginsReplies-answered status all rest old new es es1 es' s whole logged a = record {
+BeginsReplies-answered : (status : Status) (all rest old new : List ℕ) (es es1 es' : List Event) (s : State) (stopped : Option Line) → ((text : List ℕ) → IsWritten status text text)
+    → ((logs : List Log) → es1 ≡ es ++ events logs → IsLogged status logs es es') → Answered all rest old new es es1 s stopped → BeginsReplies status all es es' old new
+BeginsReplies-answered status all rest old new es es1 es' s stopped whole logged a = record {
   first = a.done;
   others = lines rest;
   logs = a.logs;
   text = a.text;
   written = a.text;
   cut = a.cut;
-  replies = replies-done all rest old new es es1 s a;
+  replies = replies-done all rest old new es es1 s stopped a;
   appended = a.appended;
   part = whole a.text;
   logged = logged a.logs a.logged;
 }
 
 -- whole replies were written
-pub Wrote-told : (status : Status) (left mid held held' : Option (List ℕ)) (es es1 es' : List Event) (s : State) → ((text : List ℕ) → IsWritten status text text)
-    → ((logs : List Log) → es1 ≡ es ++ events logs → IsLogged status logs es es') → Told left mid held held' es es1 s → Wrote status left held held' es es'
-Wrote-told status None mid held held' es es1 es' s whole logged told = tt
-Wrote-told status (Some all) None held held' es es1 es' s whole logged told = absurd told
-Wrote-told status (Some all) (Some rest) held held' es es1 es' s whole logged told =
-    FromTo-weaker held held' (λ old new. Answered all rest old new es es1 s) (BeginsReplies status all es es') (λ old new a. BeginsReplies-answered status all rest old new es es1 es' s whole logged a) told
+pub Wrote-told : (status : Status) (left mid held held' : Option (List ℕ)) (es es1 es' : List Event) (s : State) (stopped : Option Line) → ((text : List ℕ) → IsWritten status text text)
+    → ((logs : List Log) → es1 ≡ es ++ events logs → IsLogged status logs es es') → Told left mid held held' es es1 s stopped → Wrote status left held held' es es'
+Wrote-told status None mid held held' es es1 es' s stopped whole logged told = tt
+Wrote-told status (Some all) None held held' es es1 es' s stopped whole logged told = absurd told
+Wrote-told status (Some all) (Some rest) held held' es es1 es' s stopped whole logged told =
+    FromTo-weaker held held' (λ old new. Answered all rest old new es es1 s stopped) (BeginsReplies status all es es') (λ old new a. BeginsReplies-answered status all rest old new es es1 es' s stopped whole logged a) told
 
 -- the ledger where memory ran out in answering
 pub IsLogged-begun : (b : Bool) (es es1 es2 : List Event) (logs : List Log) → es1 ≡ es ++ events logs → es2 ≡ es1 ++ events (own_logs b) → IsLogged NoMemory logs es es2
@@ -264,10 +289,10 @@ IsLogged-begun true es es1 es2 logs e f =
     inr (f ∙ (ap (λ (x : List Event). x ++ events ([] ∷ [])) e ∙ (append_assoc es (events logs) (events ([] ∷ [])) ∙ ap (λ (x : List Event). es ++ x) (sym (events-append logs ([] ∷ []))))))
 IsLogged-begun false es es1 es2 logs e f = inl (f ∙ (append-nil es1 ∙ e))
 
-BeginsReplies-cut : (all mid rest old new new' : List ℕ) (es es1 es2 : List Event) (s : State) (line reply : List ℕ) (k : ℕ)
-    → Answered all mid old new es es1 s → lines mid ≡ line ∷ lines rest → AnswersTo s (asked line) reply → k ≤ length reply → new' ≡ new ++ take k reply
+BeginsReplies-cut : (all mid rest old new new' : List ℕ) (es es1 es2 : List Event) (s : State) (stopped : Option Line) (line reply : List ℕ) (k : ℕ)
+    → Answered all mid old new es es1 s stopped → lines mid ≡ line ∷ lines rest → AnswersTo s (asked line) reply → k ≤ length reply → new' ≡ new ++ take k reply
     → es2 ≡ es1 ++ events (own_logs (asks_edit (asked line))) → BeginsReplies WriteFault all es es2 old new'
-BeginsReplies-cut all mid rest old new new' es es1 es2 s line reply k a first told within push log =
+BeginsReplies-cut all mid rest old new new' es es1 es2 s stopped line reply k a first told within push log =
     let own : List Log = own_logs (asks_edit (asked line)) in
     let s' : State = left_by s (judged s (asked line)) in
     record {
@@ -286,13 +311,37 @@ BeginsReplies-cut all mid rest old new new' es es1 es2 s line reply k a first to
     }
 
 -- a prefix of the last reply was written
-pub Wrote-cut : (left mid left' held held1 held2 : Option (List ℕ)) (es es1 es2 : List Event) (s : State) (a : Asked)
-    → Told left mid held held1 es es1 s
-    → FromTo mid left' (λ all rest. (line : List ℕ) × (lines all ≡ line ∷ lines rest) × (asked line ≡ a))
+pub Wrote-cut : (left mid left' held held1 held2 : Option (List ℕ)) (es es1 es2 : List Event) (s : State) (stopped stopped' : Option Line) (a : Asked)
+    → Told left mid held held1 es es1 s stopped
+    → FromTo mid left' (λ all rest. (line : List ℕ) × IsFirstLine line stopped' all rest × (asked line ≡ a))
     → ((reply : List ℕ) × AnswersTo s a reply × AppendsPart held1 held2 reply) → es2 ≡ es1 ++ events (own_logs (asks_edit a)) → Wrote WriteFault left held held2 es es2
-Wrote-cut None mid left' held held1 held2 es es1 es2 s a told read reply log = tt
-Wrote-cut (Some all) None left' held held1 held2 es es1 es2 s a told read reply log = absurd told
-Wrote-cut (Some all) (Some x) None held held1 held2 es es1 es2 s a told read reply log = absurd read
-Wrote-cut (Some all) (Some x) (Some y) held held1 held2 es es1 es2 s a told read reply log =
-    FromTo-joins held held1 held2 (λ old new. Answered all x old new es es1 s) (λ old new. (k : ℕ) × (k ≤ length reply.0) × (new ≡ old ++ take k reply.0)) (BeginsReplies WriteFault all es es2)
-    (λ old new new' so_far push. BeginsReplies-cut all x y old new new' es es1 es2 s read.0 reply.0 push.0 so_far read.1 (subst (λ (b : Asked). AnswersTo s b reply.0) (sym read.2) reply.1) push.1 push.2 (rw read.2 log)) told reply.2
+Wrote-cut None mid left' held held1 held2 es es1 es2 s stopped stopped' a told read reply log = tt
+Wrote-cut (Some all) None left' held held1 held2 es es1 es2 s stopped stopped' a told read reply log = absurd told
+Wrote-cut (Some all) (Some x) None held held1 held2 es es1 es2 s stopped stopped' a told read reply log = absurd read
+Wrote-cut (Some all) (Some x) (Some y) held held1 held2 es es1 es2 s stopped stopped' a told read reply log =
+    FromTo-joins held held1 held2 (λ old new. Answered all x old new es es1 s stopped) (λ old new. (k : ℕ) × (k ≤ length reply.0) × (new ≡ old ++ take k reply.0)) (BeginsReplies WriteFault all es es2)
+    (λ old new new' so_far push. BeginsReplies-cut all x y old new new' es es1 es2 s stopped read.0 reply.0 push.0 so_far read.1.first (subst (λ (b : Asked). AnswersTo s b reply.0) (sym read.2) reply.1) push.1 push.2 (rw read.2 log)) told reply.2
+
+-- the whole lines before an unbroken part were answered
+Answered-whole : (all mid rest part : List ℕ) (held held' : Option (List ℕ)) (es es' : List Event) (s : State) → FromTo held held' (λ old new. Answered all mid old new es es' s None) → IsUnbroken part → mid ≡ part ++ rest
+    → FromTo held held' (λ old new. (taken : List ℕ) × (logs : List Log) × (text : List ℕ) × (all ≡ taken ++ rest) × Replies the_setting (whole_lines taken) logs text × (new ≡ old ++ text) × (es' ≡ es ++ events logs))
+Answered-whole all mid rest part None None es es' s a u e = tt
+Answered-whole all mid rest part (Some old) (Some new) es es' s a u e = (
+  a.before ++ part,
+  a.logs,
+  a.text,
+  a.joins ∙ (ap (λ (x : List ℕ). a.before ++ x) e ∙ sym (append_assoc a.before part rest)),
+  subst (λ (ls : List (List ℕ)). AreReplies the_setting start ls a.logs a.text) (sym (AreWhole-part a.before part a.done (a.whole refl) u)) (replies-done all mid old new es es' s None a),
+  a.appended,
+  a.logged,
+)
+Answered-whole all mid rest part None (Some new) es es' s a u e = absurd a
+Answered-whole all mid rest part (Some old) None es es' s a u e = absurd a
+
+-- every whole line that was taken was answered
+pub Told-whole : (left mid left' held held' : Option (List ℕ)) (es es' : List Event) (s : State) (stopped : Option Line)
+    → Told left mid held held' es es' s stopped → stopped ≡ None → FromTo mid left' (λ all rest. (part : List ℕ) × IsUnbroken part × (all ≡ part ++ rest)) → ServedWhole left left' held held' es es'
+Told-whole left mid left' held held' es es' s stopped told going off =
+    FromTo-joins left mid left' (λ all rest. FromTo held held' (λ old new. Answered all rest old new es es' s stopped)) (λ all rest. (part : List ℕ) × IsUnbroken part × (all ≡ part ++ rest))
+    (λ all rest. FromTo held held' (λ old new. (taken : List ℕ) × (logs : List Log) × (text : List ℕ) × (all ≡ taken ++ rest) × Replies the_setting (whole_lines taken) logs text × (new ≡ old ++ text) × (es' ≡ es ++ events logs)))
+    (λ all middle rest answered broken. Answered-whole all middle rest broken.0 held held' es es' s (subst (λ (o : Option Line). FromTo held held' (λ old new. Answered all middle old new es es' s o)) going answered) broken.1 broken.2) told off

@@ -1,7 +1,7 @@
 -- What a run answers and leaves.
 use Rattle.std.specs.Prelude.{◌⊎◌, ◌^◌, ◌+◌, length, Some, None, ◌≡◌, ℕ, ◌<◌, ◌≤◌, List, [], ◌∷◌, ◌++◌, take, Option}
 use Rattle.stream_model.specs.Streams.{FromTo, last_count, Rose, Grew, TakesCount}
-use Rattle.stream_model.specs.Lines.{lines}
+use Rattle.stream_model.specs.Lines.{lines, whole_lines}
 use Rattle.stream_model.specs.Ledger.{Event, Log, NoneTwice, events}
 use Rattle.page_model.specs.Pages.{State}
 use Rattle.request_model.specs.Requests.{Asked}
@@ -27,6 +27,21 @@ abbrev pub Served : Option (List ℕ) → Option (List ℕ) → Option (List ℕ
 Served left left' held held' es es' =
     FromTo left left' (λ all rest. (rest ≡ []) × FromTo held held' (λ old new.
     (logs : List Log) × (text : List ℕ) × Replies the_setting (lines all) logs text × (new ≡ old ++ text) × (es' ≡ es ++ events logs)))
+
+-- the lines that ended with a newline in the bytes taken were answered, in their order: what was appended is the replies to them, and the ledger has their logs
+abbrev pub ServedWhole : Option (List ℕ) → Option (List ℕ) → Option (List ℕ) → Option (List ℕ) → List Event → List Event → Type 0
+ServedWhole left left' held held' es es' =
+    FromTo left left' (λ all rest. FromTo held held' (λ old new.
+    (taken : List ℕ) × (logs : List Log) × (text : List ℕ) × (all ≡ taken ++ rest) × Replies the_setting (whole_lines taken) logs text × (new ≡ old ++ text) × (es' ≡ es ++ events logs)))
+
+-- a run whose source failed, or whose input is spent, answered every whole line that it took
+abbrev pub BrokenOff : Status → Option (List ℕ) → Option (List ℕ) → Option (List ℕ) → Option (List ℕ) → List Event → List Event → Type 0
+BrokenOff Done left left' held held' es es' = Unit {0}
+BrokenOff BadWords left left' held held' es es' = Unit {0}
+BrokenOff ReadFault left left' held held' es es' = ServedWhole left left' held held' es es'
+BrokenOff WriteFault left left' held held' es es' = Unit {0}
+BrokenOff NoMemory left left' held held' es es' = Unit {0}
+BrokenOff InputSpent left left' held held' es es' = ServedWhole left left' held held' es es'
 
 -- a fact of what a stream tells, if it tells
 abbrev pub OnTold : Option (List ℕ) → (List ℕ → Type 0) → Type 0

@@ -17,7 +17,7 @@ use crate::page::Page;
 use crate::plain::is_plain_tree;
 use crate::replies::{push_error, push_ok, push_ok_nodes};
 use port_core::NoMemory;
-use relayout_requests::{Asked, Edit, Insert, Refusal, Request, Load};
+use relayout_requests::{Asked, Edit, Insert, Load, Refusal, Request};
 use std::alloc::Global;
 
 /// Carries out what a line asks for, and appends its reply. Where memory runs out, what is loaded stays as it was.

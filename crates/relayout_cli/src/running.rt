@@ -1,5 +1,5 @@
 ghost use Rattle.std.specs.Prelude.{◌≡◌, ◌≢◌, length};
-ghost use Rattle.relayout_cli.specs.Runs.{Wrote, LogsOnce, FaultsBy, TakenBy, IsUntroubled, HasFewer, IsDoneButForMemory};
+ghost use Rattle.relayout_cli.specs.Runs.{BrokenOff, Wrote, LogsOnce, FaultsBy, TakenBy, IsUntroubled, HasFewer, IsDoneButForMemory};
 ghost use Rattle.relayout_cli.specs.Words.{Ran, TellsUsage};
 
 use crate::serving::serve;
@@ -17,6 +17,7 @@ pub fn run<I: Source, O: Sink, L: Drop>(
 ) -> Status
     // What is answered.
     ensures ran { Ran result (length words.now) (I.left source.old) (I.left source.new) (O.held sink.old) (O.held sink.new) steps.old steps.new }
+    ensures broken_off { BrokenOff result (I.left source.old) (I.left source.new) (O.held sink.old) (O.held sink.new) steps.old steps.new }
     ensures wrote { length words.now ≡ 1 → Wrote result (I.left source.old) (O.held sink.old) (O.held sink.new) steps.old steps.new }
     ensures complete { length words.now ≡ 1 → IsUntroubled (I.faults source.old) (I.faults source.new) (O.faults sink.old) (O.faults sink.new) → HasFewer (I.left source.old) (I.taken source.old) (I.taken source.new) → IsDoneButForMemory result }
     ensures once { LogsOnce steps.old steps.new }

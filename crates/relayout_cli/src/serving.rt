@@ -3,7 +3,7 @@ ghost use Rattle.stream_model.specs.Ledger.{events};
 ghost use Rattle.request_model.specs.States.{asks_edit};
 ghost use Rattle.relayout_requests.specs.Views.{asked_view};
 ghost use Rattle.relayout_cli.specs.Pages.{state_view};
-ghost use Rattle.relayout_cli.specs.Runs.{Served, Wrote, LogsOnce, FaultsBy, TakenBy, IsUntroubled, HasFewer, IsDoneButForMemory};
+ghost use Rattle.relayout_cli.specs.Runs.{Served, BrokenOff, Wrote, LogsOnce, FaultsBy, TakenBy, IsUntroubled, HasFewer, IsDoneButForMemory};
 ghost use Rattle.port_core.specs.Reader.{HasNotFailed};
 ghost use Rattle.relayout_cli.specs.Coming.{Comes, ReadsOn, IsAtEnd};
 ghost use Rattle.relayout_cli.specs.Turns.{Turns, Tells, own_logs};
@@ -52,6 +52,7 @@ pub fn serve<I: Source, O: Sink, L: Drop>(
     requires { profile ≡ 1 }
     // What is answered.
     ensures done { result ≡ Status.Done → Served (I.left source.old) (I.left source.new) (O.held sink.old) (O.held sink.new) steps.old steps.new }
+    ensures broken_off { BrokenOff result (I.left source.old) (I.left source.new) (O.held sink.old) (O.held sink.new) steps.old steps.new }
     ensures wrote { Wrote result (I.left source.old) (O.held sink.old) (O.held sink.new) steps.old steps.new }
     ensures complete { IsUntroubled (I.faults source.old) (I.faults source.new) (O.faults sink.old) (O.faults sink.new) → HasFewer (I.left source.old) (I.taken source.old) (I.taken source.new) → IsDoneButForMemory result }
     ensures once { LogsOnce steps.old steps.new }
@@ -74,6 +75,7 @@ fn serve_lines<I: Source, O: Sink, L: Drop>(
     steps: &mut Steps<L>,
 ) -> Status
     ensures done { result ≡ Status.Done → Served (I.left source.old) (I.left source.new) (O.held sink.old) (O.held sink.new) steps.old steps.new }
+    ensures broken_off { BrokenOff result (I.left source.old) (I.left source.new) (O.held sink.old) (O.held sink.new) steps.old steps.new }
     ensures wrote { Wrote result (I.left source.old) (O.held sink.old) (O.held sink.new) steps.old steps.new }
     ensures once { LogsOnce steps.old steps.new }
     ensures faults { FaultsBy result (I.faults source.old) (I.faults source.new) (O.faults sink.old) (O.faults sink.new) }

@@ -282,10 +282,20 @@ fn limits_of_a_document_are_exact(rt: HostRuntime) -> Result<(), Fail> {
     let deepest = deep(rt.alloc(), 95)?;
     expect_replies(&rt, rt.alloc(), deepest.as_slice(), b"ok 0 96\n")?;
     let deeper = deep(rt.alloc(), 96)?;
-    expect_replies(&rt, rt.alloc(), deeper.as_slice(), b"error 13 depth-limit\n")?;
+    expect_replies(
+        &rt,
+        rt.alloc(),
+        deeper.as_slice(),
+        b"error 13 depth-limit\n",
+    )?;
     // The document stands in the object of the request, so the JSON nests one level deeper.
     let nested = deep(rt.alloc(), 125)?;
-    expect_replies(&rt, rt.alloc(), nested.as_slice(), b"error 13 depth-limit\n")?;
+    expect_replies(
+        &rt,
+        rt.alloc(),
+        nested.as_slice(),
+        b"error 13 depth-limit\n",
+    )?;
     let too_nested = deep(rt.alloc(), 126 + 1)?;
     expect_replies(
         &rt,
@@ -406,7 +416,8 @@ fn limits_of_an_insert_are_exact(rt: HostRuntime) -> Result<(), Fail> {
     add_insert(&mut script, b"95", b"0", b"[\"div\"]")?;
     add_insert(&mut script, b"94", b"1", b"[\"div\",[\"div\"]]")?;
     add_insert(&mut script, b"94", b"1", b"[\"div\"]")?;
-    let replies: &[u8] = b"ok 0 19999\nerror 12 node-limit\nok 19999 1\nerror 12 node-limit\nok\nok 20000 1\n\
+    let replies: &[u8] =
+        b"ok 0 19999\nerror 12 node-limit\nok 19999 1\nerror 12 node-limit\nok\nok 20000 1\n\
 ok 0 96\nerror 13 depth-limit\nerror 13 depth-limit\nok 96 1\n";
     expect_replies(&rt, rt.alloc(), script.as_slice(), replies)?;
     Ok(())

@@ -12,6 +12,7 @@ returns-in-TooLong-clause-comes g c =
     let ahead_new = ahead new.pending (g.I.Source.left c.next.new.source) in
     elim c.requires.going [
       | inl fresh ↦ let lines = at-none _ _ fresh c.in-TooLong.ensures.lines in (
+        fresh,
         asks-too_long ahead_old ahead_new new.line new.stopped lines,
         c.in-TooLong.ensures.stops,
         NothingLeft-too_long ahead_old ahead_new new.line new.stopped lines,

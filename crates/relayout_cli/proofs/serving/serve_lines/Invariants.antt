@@ -12,7 +12,7 @@ abbrev pub invariant-script : goal.invariant-script
 invariant-script g l = record {
   going : HasNotFailed l.reader;
   ended : IsAtEnd l.reader (g.I.Source.left l.source);
-  told : Told (g.I.Source.left l.fn.source) (ahead l.reader.pending (g.I.Source.left l.source)) (g.O.Sink.held l.fn.sink) (g.O.Sink.held l.sink) l.fn.steps l.steps (state_view l.state);
+  told : Told (g.I.Source.left l.fn.source) (ahead l.reader.pending (g.I.Source.left l.source)) (g.O.Sink.held l.fn.sink) (g.O.Sink.held l.sink) l.fn.steps l.steps (state_view l.state) l.reader.stopped;
   once : LogsOnce l.fn.steps l.steps;
   grew : Grew (g.I.Source.taken l.fn.source) l.reader.taken (g.I.Source.taken l.source);
   took : TakesCount (g.I.Source.left l.fn.source) (g.I.Source.left l.source) l.reader.taken;
