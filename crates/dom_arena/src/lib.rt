@@ -5,6 +5,7 @@ mod children;
 mod copies;
 mod doc;
 mod fault;
+mod limits;
 mod slot;
 mod table;
 mod tree;

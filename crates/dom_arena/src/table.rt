@@ -1,5 +1,5 @@
 //! Reading a table of slots: the slot with the number i stands at the index i, and `None` stands where no node has that number any more.
-ghost use Rattle.std.specs.Prelude.{◌≡◌, encode_utf8_all, option_map, ◌+◌, ◌-◌};
+ghost use Rattle.std.specs.Prelude.{◌≡◌, encode_utf8_all, option_map, suc, slice_get, ◌+◌, ◌-◌};
 ghost use Rattle.std.specs.Option.{option_copied};
 ghost use Rattle.page_model.specs.Document.{first};
 ghost use Rattle.dom_arena.specs.Table.{slot_at, kids_at, name_in, parent_in_slot, next_in, prev_in, preceding};
@@ -55,13 +55,23 @@ pub fn first_kid(slots: &[Option<Slot>], id: NodeId) -> Option<NodeId>
 }
 
 /// What stands right before a place of a list.
-fn before(ids: &[NodeId], place: u32) -> Option<NodeId>
+fn before(ids: &[NodeId], place: usize) -> Option<NodeId>
     ensures { result ≡ preceding None ids.now place }
 {
     if place == 0 {
         return None;
     }
-    ids.get(place as usize - 1).copied()
+    ids.get(place - 1).copied()
+}
+
+/// What stands right after a place of a list.
+fn after(ids: &[NodeId], place: usize) -> Option<NodeId>
+    ensures { result ≡ slice_get ids.now (suc place) }
+{
+    if place >= ids.len() {
+        return None;
+    }
+    ids.get(place + 1).copied()
 }
 
 /// The next child of the parent.
@@ -69,9 +79,7 @@ pub fn next(slots: &[Option<Slot>], id: NodeId) -> Option<NodeId>
     ensures { result ≡ next_in slots.now (slot_at slots.now id) }
 {
     let slot = live_slot(slots, id)?;
-    kids(slots, slot.parent?)
-        .get(slot.place as usize + 1)
-        .copied()
+    after(kids(slots, slot.parent?), slot.place)
 }
 
 /// The previous child of the parent.

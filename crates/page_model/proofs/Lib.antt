@@ -1,0 +1,5 @@
+pub mod Members
+pub mod Spliced
+pub mod Levels
+pub mod Inserted
+pub mod Removed
