@@ -1,13 +1,12 @@
 -- Where numbers are distinct, each child of a node that is found is found itself.
-use Rattle.std.proofs.Common.{◌≡◌, ◌⊎◌, ℕ, ◌==◌, ◌||◌, List, [], ◌∷◌, ◌++◌, Bool, true, false, cond, Option, Some, None, is_some, refl, sym, ap, ◌∙◌, subst, inl, inr, eq-eqb}
-use Rattle.std.proofs.lemmas.Bool.{cases_Bool, eqb-true, false≢true}
+use Rattle.std.proofs.Common.{◌≡◌, ℕ, ◌==◌, List, ◌++◌, true, false, Option, Some, None, is_some, refl, ap, ◌∙◌, subst, inl, inr}
+use Rattle.std.proofs.lemmas.Bool.{cases_Bool, eqb-true}
 use Rattle.std.proofs.lemmas.Option.{same_Some, none-some}
 use Rattle.page_model.specs.Trees.{Text, Attribute}
 use Rattle.page_model.specs.Document.{Node, element, text, Nodes, no_nodes, node, id_of, kids_of, ids, all_ids, find, find_in, or_else, IsAmong, AreDistinct}
 use Rattle.page_model.proofs.Members.{distinct-left, distinct-right, distinct-apart, find-among, find_in-among, if-found, or-found}
 use Rattle.page_model.proofs.Removed.{find-top}
 use Rattle.dom_arena.specs.Children.{AreFound}
-use Rattle.dom_arena.proofs.Options.{is_some-or_else, is_some-if_some}
 
 -- ---- each of these nodes is found in a list of nodes
 

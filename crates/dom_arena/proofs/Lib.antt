@@ -6,3 +6,7 @@ pub mod Checked
 pub mod Numbered
 pub mod Loaded
 pub mod Found
+pub mod Writes
+pub mod Same
+pub mod Placed
+pub mod Cleared

@@ -4,6 +4,7 @@
 mod children;
 mod copies;
 mod doc;
+mod edits;
 mod fault;
 mod limits;
 mod slot;

@@ -1,5 +1,4 @@
-use Rattle.std.proofs.Common.{◌≡◌, ◌+◌, length, ap, rules, arith}
-use Rattle.page_model.specs.Trees.{size}
+use Rattle.std.proofs.Common.{◌≡◌, length, ap, rules, arith}
 use Rattle.dom_arena.proofs.Rows.{length-more}
 use Rattle.dom_arena.specs.Shape.{shape}
 use Rattle.dom_arena.proofs.Checked.{fits_loaded}
