@@ -2,3 +2,4 @@ pub mod CutLemmas
 pub mod CountLemmas
 pub mod BoxLemmas
 pub mod ReplyLemmas
+pub mod NumberingLemmas

@@ -3,10 +3,12 @@
 
 mod boxes;
 mod documents;
+mod edits;
 mod lines;
 mod replies;
 
 pub use boxes::{one_assignment, some_assignment};
 pub use documents::numbers_count_up;
+pub use edits::a_number_is_given_once;
 pub use lines::{lines_are_cut_at_newlines, one_way_to_cut};
 pub use replies::{one_text, some_text};
