@@ -3,3 +3,5 @@ pub mod CountLemmas
 pub mod BoxLemmas
 pub mod ReplyLemmas
 pub mod NumberingLemmas
+pub mod InsertLemmas
+pub mod LevelLemmas

@@ -45,6 +45,9 @@ absent-none i n out = elim (none-or-some (find i n)) [
   | inr some ↦ absurd (out (find-among i n (ap is_some some.1)))
 ]
 
+pub some-among : (i : ℕ) (n x : Node) → find i n ≡ Some x → IsAmong i (ids n)
+some-among i n x h = find-among i n (ap is_some h)
+
 -- ---- an insert
 
 -- it changes nothing, or the parent is an element

@@ -1,8 +1,12 @@
-ghost use Rattle.std.specs.Prelude.{◌≡◌, ◌<◌, ◌≤◌, ℕ, None};
-ghost use Rattle.page_model.specs.Trees.{Tree};
-ghost use Rattle.page_model.specs.Document.{Document, document, find};
-ghost use Rattle.page_model.specs.Edits.{after_insert, after_remove};
+ghost use Rattle.std.specs.Prelude.{◌≡◌, ◌≢◌, ◌<◌, ◌≤◌, ℕ, suc, ◌+◌, max, nat_lt, List, ◌∷◌, ◌++◌, take, drop, Some, None, IsSome, option_map, unwrap_or};
+ghost use Rattle.page_model.specs.Trees.{Tree, size, depth};
+ghost use Rattle.page_model.specs.Document.{Node, Document, document, numbered, id_of, find, name_at, parent_of, ids, AreDistinct, height, node_count};
+ghost use Rattle.page_model.specs.Limits.{max_depth};
+ghost use Rattle.page_model.specs.Edits.{after_insert, after_remove, level, tree_refusals, load_refusals};
+ghost use Rattle.model_laws.specs.Counting.{count_up};
 ghost use Rattle.model_laws.specs.Numbering.{IsWellNumbered};
+ghost use Rattle.model_laws.specs.Children.{child_ids, IsPlace, alone};
+ghost use Rattle.model_laws.specs.Bounds.{excess};
 
 /// No two nodes have the same number, after a load and each edit, and the number of a node that is gone is not given again.
 pub fn a_number_is_given_once()
@@ -13,4 +17,30 @@ pub fn a_number_is_given_once()
     ensures remove_counts_on { (i : ℕ) (d : Document) → d.next_id ≤ (after_remove i d).next_id }
     ensures insert_revives_none { (parent index : ℕ) (t : Tree) (d : Document) (j : ℕ) → IsWellNumbered d → j < d.next_id → find j d.root ≡ None → find j (after_insert parent index t d).root ≡ None }
     ensures remove_revives_none { (i : ℕ) (d : Document) (j : ℕ) → IsWellNumbered d → find j d.root ≡ None → find j (after_remove i d).root ≡ None }
+{}
+
+/// An insert puts the new tree among the children of its parent, behind as many of them as was asked, and leaves each other node and list of children as it was (DOM section 4.2.3).
+pub fn an_insert_changes_one_child_list()
+    ensures child_list { (parent index : ℕ) (t : Tree) (d : Document) → IsWellNumbered d → IsPlace parent index d → child_ids parent (after_insert parent index t d).root ≡ take index (child_ids parent d.root) ++ d.next_id ∷ drop index (child_ids parent d.root) }
+    ensures other_lists { (parent index : ℕ) (t : Tree) (d : Document) (j : ℕ) → IsWellNumbered d → j < d.next_id → j ≢ parent → child_ids j (after_insert parent index t d).root ≡ child_ids j d.root }
+    ensures new_tree { (parent index : ℕ) (t : Tree) (d : Document) → IsWellNumbered d → IsSome (name_at parent d.root) → find d.next_id (after_insert parent index t d).root ≡ Some (numbered d.next_id t) }
+    ensures new_nodes { (parent index : ℕ) (t : Tree) (d : Document) (j : ℕ) → IsWellNumbered d → IsSome (name_at parent d.root) → d.next_id ≤ j → find j (after_insert parent index t d).root ≡ find j (numbered d.next_id t) }
+    ensures names { (parent index : ℕ) (t : Tree) (d : Document) (j : ℕ) → IsWellNumbered d → j < d.next_id → name_at j (after_insert parent index t d).root ≡ name_at j d.root }
+    ensures nodes { (parent index : ℕ) (t : Tree) (d : Document) (j : ℕ) → IsWellNumbered d → j < d.next_id → option_map alone (find j (after_insert parent index t d).root) ≡ option_map alone (find j d.root) }
+    ensures document_order { (parent index : ℕ) (t : Tree) (d : Document) → IsWellNumbered d → IsSome (name_at parent d.root) → (front : List ℕ) × ((back : List ℕ) × (ids d.root ≡ front ++ back) × (ids (after_insert parent index t d).root ≡ front ++ (count_up d.next_id (size t) ++ back))) }
+{}
+
+/// The root stands at level 1, and a child one level below its parent.
+pub fn a_level_counts_from_the_root()
+    ensures root { (root : Node) → level (id_of root) root ≡ Some 1 }
+    ensures child { (root : Node) (i parent : ℕ) → AreDistinct (ids root) → parent_of i root ≡ Some parent → level i root ≡ option_map (λ l. suc l) (level parent root) }
+{}
+
+/// A load and an insert are refused for a limit exactly where the document after them would break it.
+pub fn the_limits_are_those_of_the_document_after()
+    ensures height_after { (parent index : ℕ) (t : Tree) (d : Document) (l : ℕ) → IsWellNumbered d → IsSome (name_at parent d.root) → level parent d.root ≡ Some l → height (after_insert parent index t d).root ≡ max (height d.root) (l + depth t) }
+    ensures count_after { (parent index : ℕ) (t : Tree) (d : Document) → IsWellNumbered d → IsSome (name_at parent d.root) → node_count (after_insert parent index t d).root ≡ node_count d.root + size t }
+    ensures depth_limit { (parent index : ℕ) (t : Tree) (d : Document) (l : ℕ) → IsWellNumbered d → IsSome (name_at parent d.root) → level parent d.root ≡ Some l → height d.root ≤ max_depth → nat_lt max_depth (l + depth t) ≡ nat_lt max_depth (height (after_insert parent index t d).root) }
+    ensures insert_causes { (parent index : ℕ) (t : Tree) (d : Document) → IsWellNumbered d → IsSome (name_at parent d.root) → height d.root ≤ max_depth → tree_refusals (unwrap_or (level parent d.root) 0) (node_count d.root) d.next_id t ≡ excess (after_insert parent index t d) }
+    ensures load_causes { (t : Tree) → load_refusals t ≡ excess (document t) }
 {}
