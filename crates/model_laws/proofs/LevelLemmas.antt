@@ -1,18 +1,19 @@
 -- Levels, and the height of a tree after an insert.
-use Rattle.std.proofs.Common.{◌≡◌, ◌⊎◌, ℕ, zero, suc, ◌+◌, ◌<◌, ◌≤◌, ◌==◌, max, nat_lt, List, [], ◌∷◌, ◌++◌, length, Bool, true, false, cond, Option, Some, None, option_map, option_and_then, unwrap_or, is_some, IsSome, refl, sym, ap, ap₂, ◌∙◌, subst, inl, inr, arith, eq-eqb, ne_eqb, lt-ltb, le-ltb, ltb-true, ltb-false}
+use Rattle.std.proofs.Common.{◌≡◌, ◌⊎◌, ℕ, zero, suc, ◌+◌, ◌<◌, ◌≤◌, ◌==◌, max, nat_lt, List, [], ◌∷◌, ◌++◌, length, Bool, true, false, cond, Option, Some, None, option_map, option_and_then, unwrap_or, is_some, is_none, IsSome, refl, sym, ap, ap₂, ◌∙◌, subst, inl, inr, arith, eq-eqb, ne_eqb, lt-ltb, le-ltb, ltb-true, ltb-false}
 use Rattle.std.proofs.lemmas.Bool.{cases_Bool, eqb-true, false≢true}
 use Rattle.std.proofs.lemmas.Option.{same_Some, none-some}
 use Rattle.page_model.specs.Trees.{Tree, elem, characters, Trees, no_trees, tree, size, depth, depths}
 use Rattle.page_model.specs.Document.{Node, element, text, Nodes, no_nodes, node, Document, document, numbered, all_numbered, id_of, ids_of, name_of, name_at, ids, all_ids, find, find_in, or_else, parent_in, parent_below, parent_of, is_among, IsAmong, AreDistinct, height, heights, node_count}
 use Rattle.page_model.specs.Limits.{max_depth, max_nodes, max_ids}
-use Rattle.page_model.specs.Refusals.{Causes, depth_limit, node_limit, id_limit}
-use Rattle.page_model.specs.Edits.{inserted, all_inserted, with_one, after_insert, level, level_in, tree_refusals, load_refusals}
+use Rattle.page_model.specs.Refusals.{Refusal, Causes, first_of, no_node, not_element, bad_index, depth_limit, node_limit, id_limit}
+use Rattle.page_model.specs.Edits.{inserted, all_inserted, with_one, after_insert, level, level_in, child_count, tree_refusals, insert_refusals, load_refusals}
 use Rattle.page_model.proofs.Members.{among-left, among-right, among-kids, among-find, find-among, is_among-true, distinct-left, distinct-right, distinct-apart, if-found, or-found}
 use Rattle.page_model.proofs.Spliced.{Spliced, spliced-length}
 use Rattle.page_model.proofs.Levels.{level-found, level-element}
 use Rattle.page_model.proofs.Inserted.{inserted-absent, all_inserted-absent, unfound-absent}
 use Rattle.model_laws.specs.Counting.{count_up}
 use Rattle.model_laws.specs.Numbering.{IsWellNumbered}
+use Rattle.model_laws.specs.Children.{IsPlace}
 use Rattle.model_laws.specs.Bounds.{excess}
 use Rattle.model_laws.proofs.CountLemmas.{ids-numbered}
 use Rattle.model_laws.proofs.NumberingLemmas.{count_up-length, none-or-some, named-some, some-among, spliced-named}
@@ -190,7 +191,7 @@ causes height nodes given = (nat_lt max_depth height, depth_limit) ∷ (nat_lt m
 same-causes : (a b x y n : ℕ) → nat_lt max_depth a ≡ nat_lt max_depth b → x ≡ y → causes a x n ≡ causes b y n
 same-causes a b x y n h k = ap₂ (λ (p q : Bool). (p, depth_limit) ∷ (q, node_limit) ∷ (nat_lt max_ids n, id_limit) ∷ []) h (ap (nat_lt max_nodes) k)
 
-pub insert-excess : (parent index : ℕ) (t : Tree) (d : Document) → IsWellNumbered d → IsSome (name_at parent d.root) → height d.root ≤ max_depth
+insert-excess : (parent index : ℕ) (t : Tree) (d : Document) → IsWellNumbered d → IsSome (name_at parent d.root) → height d.root ≤ max_depth
     → tree_refusals (unwrap_or (level parent d.root) 0) (node_count d.root) d.next_id t ≡ excess (after_insert parent index t d)
 insert-excess parent index t d w h low = elim (none-or-some (level parent d.root)) [
   | inl none ↦
@@ -201,10 +202,30 @@ insert-excess parent index t d w h low = elim (none-or-some (level parent d.root
       ∙ same-causes (some.0 + depth t) (height (after_insert parent index t d).root) (node_count d.root + size t) (node_count (after_insert parent index t d).root) (d.next_id + size t) (depth-limit parent index t d some.0 w h some.1 low) (sym (count-after parent index t d w h))
 ]
 
-pub load-excess : (t : Tree) → load_refusals t ≡ excess (document t)
+skipped : (b : Bool) (r : Refusal) (rs : Causes) → b ≡ false → first_of ((b, r) ∷ rs) ≡ first_of rs
+skipped b r rs h = ap (λ (x : Bool). cond x (Some r) (first_of rs)) h
+
+some-not-none : {X : Type 0} (o : Option X) → IsSome o → is_none o ≡ false
+some-not-none (Some x) h = refl
+some-not-none None h = absurd (false≢true h)
+
+pub insert-refused : (parent index : ℕ) (t : Tree) (d : Document) → IsWellNumbered d → IsPlace parent index d → height d.root ≤ max_depth
+    → first_of (insert_refusals parent index t d) ≡ first_of (excess (after_insert parent index t d))
+insert-refused parent index t d w place low =
+    let p = named-some (find parent d.root) place.0 in
+    let limits : Causes = tree_refusals (unwrap_or (level parent d.root) 0) (node_count d.root) d.next_id t in
+    let few : Causes = (nat_lt (child_count parent d.root) index, bad_index) ∷ limits in
+    skipped (is_none (find parent d.root)) no_node ((is_none (name_at parent d.root), not_element) ∷ few) (ap is_none p.1.0)
+    ∙ (skipped (is_none (name_at parent d.root)) not_element few (some-not-none (name_at parent d.root) place.0)
+    ∙ (skipped (nat_lt (child_count parent d.root) index) bad_index limits (le-ltb (child_count parent d.root) index place.1) ∙ ap first_of (insert-excess parent index t d w place.0 low)))
+
+load-excess : (t : Tree) → load_refusals t ≡ excess (document t)
 load-excess t =
     let a : 0 + depth t ≡ height (numbered 0 t) = omega arith ∙ sym (height-numbered 0 t) in
     let b : 0 + size t ≡ node_count (numbered 0 t) = omega arith ∙ (sym (count_up-length 0 (size t)) ∙ sym (ap length (ids-numbered 0 t))) in
     let c : 0 + size t ≡ size t = omega arith in
     same-causes (0 + depth t) (height (numbered 0 t)) (0 + size t) (node_count (numbered 0 t)) (0 + size t) (ap (nat_lt max_depth) a) b
     ∙ ap (causes (height (numbered 0 t)) (node_count (numbered 0 t))) c
+
+pub load-refused : (t : Tree) → first_of (load_refusals t) ≡ first_of (excess (document t))
+load-refused t = ap first_of (load-excess t)

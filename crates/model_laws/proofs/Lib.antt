@@ -5,3 +5,4 @@ pub mod ReplyLemmas
 pub mod NumberingLemmas
 pub mod InsertLemmas
 pub mod LevelLemmas
+pub mod RemoveLemmas

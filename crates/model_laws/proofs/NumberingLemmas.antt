@@ -4,9 +4,9 @@ use Rattle.std.proofs.lemmas.Bool.{cases_Bool, eqb-true, false≢true}
 use Rattle.std.proofs.lemmas.Option.{same_Some, none-some}
 use Rattle.page_model.specs.Trees.{Tree, size}
 use Rattle.page_model.specs.Document.{Node, element, text, Nodes, no_nodes, node, Document, document, numbered, id_of, name_of, name_at, ids, all_ids, find, find_in, IsAmong, AreDistinct}
-use Rattle.page_model.specs.Edits.{inserted, all_inserted, removed, after_insert, after_remove}
-use Rattle.page_model.proofs.Members.{among-top, among-find, find-among, distinct-left, distinct-right, distinct-apart}
-use Rattle.page_model.proofs.Spliced.{Spliced, spliced-distinct, spliced-among, spliced-rest, rest-distinct}
+use Rattle.page_model.specs.Edits.{inserted, all_inserted, removed, all_removed, after_insert, after_remove}
+use Rattle.page_model.proofs.Members.{among-left, among-right, among-split, among-top, among-find, find-among, distinct-left, distinct-right, distinct-apart}
+use Rattle.page_model.proofs.Spliced.{Spliced, spliced-distinct, spliced-among, rest-distinct}
 use Rattle.page_model.proofs.Inserted.{inserted-absent, all_inserted-absent, unfound-absent, found-absent, ids-inserted}
 use Rattle.page_model.proofs.Removed.{removed-absent, all_removed-absent, ids-removed}
 use Rattle.model_laws.specs.Counting.{count_up}
@@ -135,7 +135,7 @@ removed-top (element id name attributes kids) d = ap (element id name attributes
 removed-top (text id cs) d = refl
 
 -- it changes nothing, or the numbers of a subtree are gone
-pub remove-numbers : (i : ℕ) (n : Node) → AreDistinct (ids n) → (removed i n ≡ n) ⊎ ((x : Node) × Spliced (ids n) (ids x) (ids (removed i n)))
+remove-numbers : (i : ℕ) (n : Node) → AreDistinct (ids n) → (removed i n ≡ n) ⊎ ((x : Node) × Spliced (ids n) (ids x) (ids (removed i n)))
 remove-numbers i n d = elim (cases_Bool (i == id_of n)) [
   | inl t ↦ inl (ap (λ k. removed k n) (eqb-true i (id_of n) t) ∙ removed-top n d)
   | inr f ↦ elim (none-or-some (find i n)) [
@@ -144,11 +144,22 @@ remove-numbers i n d = elim (cases_Bool (i == id_of n)) [
   ]
 ]
 
-pub among-removed : (i j : ℕ) (n : Node) → AreDistinct (ids n) → IsAmong j (ids (removed i n)) → IsAmong j (ids n)
-among-removed i j n d h = elim (remove-numbers i n d) [
-  | inl e ↦ subst (IsAmong j) (ap ids e) h
-  | inr s ↦ spliced-rest j (ids n) (ids s.0) (ids (removed i n)) s.1 h
-]
+-- what is left was there
+mutual
+  pub among-kept : (i j : ℕ) (n : Node) → IsAmong j (ids (removed i n)) → IsAmong j (ids n)
+  among-kept i j (element id name attributes kids) (inl e) = inl e
+  among-kept i j (element id name attributes kids) (inr h) = inr (all_among-kept i j kids h)
+  among-kept i j (text id cs) h = h
+
+  pub all_among-kept : (i j : ℕ) (ns : Nodes) → IsAmong j (all_ids (all_removed i ns)) → IsAmong j (all_ids ns)
+  all_among-kept i j no_nodes h = absurd h
+  all_among-kept i j (node n ns) h = elim (cases_Bool (i == id_of n)) [
+    | inl t ↦ among-right j (ids n) (all_ids ns) (all_among-kept i j ns (rw t at h))
+    | inr f ↦ elim (among-split j (ids (removed i n)) (all_ids (all_removed i ns)) (rw f at h)) [
+      | inl k ↦ among-left j (ids n) (all_ids ns) (among-kept i j n k)
+      | inr k ↦ among-right j (ids n) (all_ids ns) (all_among-kept i j ns k)
+    ]
+  ]
 
 distinct-removed : (i : ℕ) (n : Node) → AreDistinct (ids n) → AreDistinct (ids (removed i n))
 distinct-removed i n d = elim (remove-numbers i n d) [
@@ -157,11 +168,11 @@ distinct-removed i n d = elim (remove-numbers i n d) [
 ]
 
 pub well-removed : (i : ℕ) (d : Document) → IsWellNumbered d → IsWellNumbered (after_remove i d)
-well-removed i d w = (distinct-removed i d.root w.0, λ j h. w.1 j (among-removed i j d.root w.0 h))
+well-removed i d w = (distinct-removed i d.root w.0, λ j h. w.1 j (among-kept i j d.root h))
 
 pub dead-removed : (i : ℕ) (d : Document) (j : ℕ) → IsWellNumbered d → find j d.root ≡ None → find j (after_remove i d).root ≡ None
 dead-removed i d j w none =
-    absent-none j (after_remove i d).root (λ h. unfound-absent j d.root none (among-removed i j d.root w.0 h))
+    absent-none j (after_remove i d).root (λ h. unfound-absent j d.root none (among-kept i j d.root h))
 
 -- ---- a load
 

@@ -1,11 +1,12 @@
-ghost use Rattle.std.specs.Prelude.{◌≡◌, ◌≢◌, ◌<◌, ◌≤◌, ℕ, suc, ◌+◌, max, nat_lt, List, ◌∷◌, ◌++◌, take, drop, Some, None, IsSome, option_map, unwrap_or};
+ghost use Rattle.std.specs.Prelude.{◌≡◌, ◌≢◌, ◌<◌, ◌≤◌, ℕ, suc, ◌+◌, max, nat_lt, List, ◌∷◌, ◌++◌, take, drop, Some, None, IsSome, option_map};
 ghost use Rattle.page_model.specs.Trees.{Tree, size, depth};
-ghost use Rattle.page_model.specs.Document.{Node, Document, document, numbered, id_of, find, name_at, parent_of, ids, AreDistinct, height, node_count};
+ghost use Rattle.page_model.specs.Document.{Node, Document, document, numbered, id_of, find, name_at, parent_of, ids, IsAmong, AreDistinct, height, node_count};
 ghost use Rattle.page_model.specs.Limits.{max_depth};
-ghost use Rattle.page_model.specs.Edits.{after_insert, after_remove, level, tree_refusals, load_refusals};
+ghost use Rattle.page_model.specs.Edits.{after_insert, after_remove, level, insert_refusals, load_refusals};
+ghost use Rattle.page_model.specs.Refusals.{first_of};
 ghost use Rattle.model_laws.specs.Counting.{count_up};
 ghost use Rattle.model_laws.specs.Numbering.{IsWellNumbered};
-ghost use Rattle.model_laws.specs.Children.{child_ids, IsPlace, alone};
+ghost use Rattle.model_laws.specs.Children.{child_ids, IsPlace, without, alone};
 ghost use Rattle.model_laws.specs.Bounds.{excess};
 
 /// No two nodes have the same number, after a load and each edit, and the number of a node that is gone is not given again.
@@ -41,6 +42,21 @@ pub fn the_limits_are_those_of_the_document_after()
     ensures height_after { (parent index : ℕ) (t : Tree) (d : Document) (l : ℕ) → IsWellNumbered d → IsSome (name_at parent d.root) → level parent d.root ≡ Some l → height (after_insert parent index t d).root ≡ max (height d.root) (l + depth t) }
     ensures count_after { (parent index : ℕ) (t : Tree) (d : Document) → IsWellNumbered d → IsSome (name_at parent d.root) → node_count (after_insert parent index t d).root ≡ node_count d.root + size t }
     ensures depth_limit { (parent index : ℕ) (t : Tree) (d : Document) (l : ℕ) → IsWellNumbered d → IsSome (name_at parent d.root) → level parent d.root ≡ Some l → height d.root ≤ max_depth → nat_lt max_depth (l + depth t) ≡ nat_lt max_depth (height (after_insert parent index t d).root) }
-    ensures insert_causes { (parent index : ℕ) (t : Tree) (d : Document) → IsWellNumbered d → IsSome (name_at parent d.root) → height d.root ≤ max_depth → tree_refusals (unwrap_or (level parent d.root) 0) (node_count d.root) d.next_id t ≡ excess (after_insert parent index t d) }
-    ensures load_causes { (t : Tree) → load_refusals t ≡ excess (document t) }
+    ensures insert_refused { (parent index : ℕ) (t : Tree) (d : Document) → IsWellNumbered d → IsPlace parent index d → height d.root ≤ max_depth → first_of (insert_refusals parent index t d) ≡ first_of (excess (after_insert parent index t d)) }
+    ensures load_refused { (t : Tree) → first_of (load_refusals t) ≡ first_of (excess (document t)) }
+{}
+
+/// A remove takes a node out with all below it, and leaves each other node as it was, and of each list of children all others (DOM section 4.2.3).
+pub fn a_remove_takes_out_a_subtree()
+    ensures document_order { (i : ℕ) (d : Document) (n : Node) → IsWellNumbered d → find i d.root ≡ Some n → i ≢ id_of d.root → (front : List ℕ) × ((back : List ℕ) × (ids d.root ≡ front ++ (ids n ++ back)) × (ids (after_remove i d).root ≡ front ++ back)) }
+    ensures gone { (i : ℕ) (d : Document) (n : Node) (j : ℕ) → IsWellNumbered d → find i d.root ≡ Some n → i ≢ id_of d.root → IsAmong j (ids n) → find j (after_remove i d).root ≡ None }
+    ensures kept { (i : ℕ) (d : Document) (n : Node) (j : ℕ) → IsWellNumbered d → find i d.root ≡ Some n → i ≢ id_of d.root → IsSome (find j d.root) → (IsAmong j (ids n) → ⊥) → IsSome (find j (after_remove i d).root) }
+    ensures child_lists { (i : ℕ) (d : Document) (j : ℕ) → IsWellNumbered d → IsSome (find j (after_remove i d).root) → child_ids j (after_remove i d).root ≡ without i (child_ids j d.root) }
+    ensures names { (i : ℕ) (d : Document) (j : ℕ) → IsWellNumbered d → IsSome (find j (after_remove i d).root) → name_at j (after_remove i d).root ≡ name_at j d.root }
+    ensures nodes { (i : ℕ) (d : Document) (j : ℕ) → IsWellNumbered d → IsSome (find j (after_remove i d).root) → option_map alone (find j (after_remove i d).root) ≡ option_map alone (find j d.root) }
+{}
+
+/// To remove the tree that an insert put in gives back the tree as it was before.
+pub fn a_remove_undoes_an_insert()
+    ensures { (parent index : ℕ) (t : Tree) (d : Document) → IsWellNumbered d → (after_remove d.next_id (after_insert parent index t d)).root ≡ d.root }
 {}
