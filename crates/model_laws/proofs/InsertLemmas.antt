@@ -1,17 +1,17 @@
 -- What is found in a tree after an insert.
-use Rattle.std.proofs.Common.{◌≡◌, ◌⊎◌, ◌≢◌, ℕ, zero, suc, ◌+◌, ◌<◌, ◌≤◌, ◌==◌, List, [], ◌∷◌, ◌++◌, length, take, drop, Bool, true, false, cond, Option, Some, None, option_map, option_and_then, unwrap_or, is_some, IsSome, refl, sym, ap, ◌∙◌, subst, inl, inr, arith, eq-eqb, ne_eqb}
+use Rattle.std.proofs.Common.{◌≡◌, ℕ, zero, suc, ◌<◌, ◌≤◌, ◌==◌, List, [], ◌∷◌, false, Option, Some, None, option_map, option_and_then, unwrap_or, is_some, IsSome, refl, sym, ap, ap₂, ◌∙◌, subst, inl, inr, arith, eq-eqb, ne_eqb}
 use Rattle.std.proofs.lemmas.Bool.{cases_Bool, eqb-true, false≢true}
 use Rattle.std.proofs.lemmas.Option.{same_Some, none-some}
 use Rattle.page_model.specs.Trees.{Tree, elem, characters, size}
 use Rattle.page_model.specs.Document.{Node, element, text, Nodes, no_nodes, node, Document, numbered, id_of, kids_of, ids_of, name_of, name_at, ids, all_ids, find, find_in, or_else, IsAmong, AreDistinct}
-use Rattle.page_model.specs.Edits.{with_one, inserted, all_inserted, after_insert, child_count}
-use Rattle.page_model.proofs.Members.{among-left, among-right, find_in-among, distinct-left, distinct-right, distinct-apart, if-found, or-found}
+use Rattle.page_model.specs.Edits.{with_one, inserted, all_inserted, after_insert}
+use Rattle.page_model.proofs.Members.{among-left, among-right, find_in-among, distinct-left, distinct-right, if-found, or-found}
 use Rattle.page_model.proofs.Inserted.{inserted-absent, all_inserted-absent, ids_of-inserted, unfound-absent, found-absent}
 use Rattle.page_model.proofs.Removed.{find-top}
 use Rattle.page_model.proofs.Spliced.{Spliced}
 use Rattle.model_laws.specs.Counting.{count_up}
-use Rattle.model_laws.specs.Numbering.{IsWellNumbered}
-use Rattle.model_laws.specs.Children.{child_ids, IsPlace, alone}
+use Rattle.model_laws.specs.Numbering.{IsWellNumbered, HasRun}
+use Rattle.model_laws.specs.Children.{child_ids, with_number, alone}
 use Rattle.model_laws.proofs.CountLemmas.{ids-numbered}
 use Rattle.model_laws.proofs.NumberingLemmas.{among-count_up, none-or-some, named-some, absent-none, some-among, spliced-named}
 
@@ -53,9 +53,6 @@ mutual
 pub child_ids-found : (i : ℕ) (root x : Node) → find i root ≡ Some x → child_ids i root ≡ ids_of (kids_of x)
 child_ids-found i root x h = ap (λ (o : Option Node). unwrap_or (option_map (λ n. ids_of (kids_of n)) o) []) h
 
-child_count-found : (i : ℕ) (root x : Node) → find i root ≡ Some x → child_count i root ≡ length (ids_of (kids_of x))
-child_count-found i root x h = ap (λ (o : Option Node). unwrap_or (option_map (λ n. length (ids_of (kids_of n))) o) 0) h
-
 -- ---- a node that lived before is found as the insert left it
 
 find_in-with_one : (j index : ℕ) (new : Node) (ns : Nodes) → find j new ≡ None → find_in j (with_one index new ns) ≡ find_in j ns
@@ -87,8 +84,8 @@ mutual
 
 unnumbered-none : (j next : ℕ) (t : Tree) → j < next → find j (numbered next t) ≡ None
 unnumbered-none j next t low = absent-none j (numbered next t) (λ h.
-  let high = among-count_up j next (size t) (subst (IsAmong j) (ids-numbered next t) h) in
-  omega (arith, high.0, low))
+    let high = among-count_up j next (size t) (subst (IsAmong j) (ids-numbered next t) h) in
+    omega (arith, high.0, low))
 
 -- what a document finds below its next number
 old-found : (parent index : ℕ) (t : Tree) (d : Document) (j : ℕ) → IsWellNumbered d → j < d.next_id
@@ -113,15 +110,14 @@ old-alone parent index t d j w low = ap (option_map alone) (old-found parent ind
 
 -- ---- the children
 
-ids_of-with_one : (index : ℕ) (new : Node) (ns : Nodes) → index ≤ length (ids_of ns) → ids_of (with_one index new ns) ≡ take index (ids_of ns) ++ id_of new ∷ drop index (ids_of ns)
-ids_of-with_one zero new ns h = refl
-ids_of-with_one (suc k) new no_nodes h = absurd (omega arith)
-ids_of-with_one (suc k) new (node n ns) h = ap (λ (xs : List ℕ). id_of n ∷ xs) (ids_of-with_one k new ns (omega arith))
+ids_of-with_one : (index : ℕ) (new : Node) (ns : Nodes) → ids_of (with_one index new ns) ≡ with_number index (id_of new) (ids_of ns)
+ids_of-with_one zero new ns = refl
+ids_of-with_one (suc k) new no_nodes = refl
+ids_of-with_one (suc k) new (node n ns) = ap (λ (xs : List ℕ). id_of n ∷ xs) (ids_of-with_one k new ns)
 
-kids-parent : (parent index : ℕ) (new x : Node) → parent ≡ id_of x → IsSome (name_of x) → index ≤ length (ids_of (kids_of x))
-    → ids_of (kids_of (inserted parent index new x)) ≡ take index (ids_of (kids_of x)) ++ id_of new ∷ drop index (ids_of (kids_of x))
-kids-parent parent index new (element id name attributes kids) e h k = rw (eq-eqb parent id e) (ids_of-with_one index new kids k)
-kids-parent parent index new (text id cs) e h k = absurd (false≢true h)
+kids-parent : (parent index : ℕ) (new x : Node) → parent ≡ id_of x → IsSome (name_of x) → ids_of (kids_of (inserted parent index new x)) ≡ with_number index (id_of new) (ids_of (kids_of x))
+kids-parent parent index new (element id name attributes kids) e h = rw (eq-eqb parent id e) (ids_of-with_one index new kids)
+kids-parent parent index new (text id cs) e h = absurd (false≢true h)
 
 kids-other : (parent index : ℕ) (new x : Node) → (parent ≡ id_of x → ⊥) → ids_of (kids_of (inserted parent index new x)) ≡ ids_of (kids_of x)
 kids-other parent index new (element id name attributes kids) e = rw (ne_eqb parent id e) (ids_of-inserted parent index new kids)
@@ -131,20 +127,17 @@ pub id_of-numbered : (n : ℕ) (t : Tree) → id_of (numbered n t) ≡ n
 id_of-numbered n (elem name attributes kids) = refl
 id_of-numbered n (characters cs) = refl
 
-pub parent-list : (parent index : ℕ) (t : Tree) (d : Document) → IsWellNumbered d → IsPlace parent index d
-    → child_ids parent (after_insert parent index t d).root ≡ take index (child_ids parent d.root) ++ d.next_id ∷ drop index (child_ids parent d.root)
-parent-list parent index t d w place =
+pub parent-list : (parent index : ℕ) (t : Tree) (d : Document) → IsWellNumbered d → IsSome (name_at parent d.root)
+    → child_ids parent (after_insert parent index t d).root ≡ with_number index d.next_id (child_ids parent d.root)
+parent-list parent index t d w h =
     let new : Node = numbered d.next_id t in
-    let p = named-some (find parent d.root) place.0 in
+    let p = named-some (find parent d.root) h in
     let low : parent < d.next_id = w.1 parent (some-among parent d.root p.0 p.1.0) in
     let at : find parent (after_insert parent index t d).root ≡ Some (inserted parent index new p.0) =
     old-found parent index t d parent w low ∙ ap (option_map (λ x. inserted parent index new x)) p.1.0 in
-    let few : index ≤ length (ids_of (kids_of p.0)) = subst (λ (n : ℕ). index ≤ n) (child_count-found parent d.root p.0 p.1.0) place.1 in
-    let there : child_ids parent (after_insert parent index t d).root ≡ ids_of (kids_of (inserted parent index new p.0)) = child_ids-found parent (after_insert parent index t d).root (inserted parent index new p.0) at in
-    let here : child_ids parent d.root ≡ ids_of (kids_of p.0) = child_ids-found parent d.root p.0 p.1.0 in
-    there ∙ (kids-parent parent index new p.0 (find-id parent d.root p.0 p.1.0) p.1.1 few
-    ∙ (ap (λ (n : ℕ). take index (ids_of (kids_of p.0)) ++ n ∷ drop index (ids_of (kids_of p.0))) (id_of-numbered d.next_id t)
-    ∙ ap (λ (cs : List ℕ). take index cs ++ d.next_id ∷ drop index cs) (sym here)))
+    child_ids-found parent (after_insert parent index t d).root (inserted parent index new p.0) at
+    ∙ (kids-parent parent index new p.0 (find-id parent d.root p.0 p.1.0) p.1.1
+    ∙ ap₂ (λ (n : ℕ) (cs : List ℕ). with_number index n cs) (id_of-numbered d.next_id t) (sym (child_ids-found parent d.root p.0 p.1.0)))
 
 pub other-list : (parent index : ℕ) (t : Tree) (d : Document) (j : ℕ) → IsWellNumbered d → j < d.next_id → (j ≡ parent → ⊥) → child_ids j (after_insert parent index t d).root ≡ child_ids j d.root
 other-list parent index t d j w low other = elim (none-or-some (find j d.root)) [
@@ -202,8 +195,7 @@ pub new-found : (parent index : ℕ) (t : Tree) (d : Document) → IsWellNumbere
 new-found parent index t d w h =
     new-nodes parent index t d d.next_id w h (omega arith) ∙ (ap (λ (i : ℕ). find i (numbered d.next_id t)) (sym (id_of-numbered d.next_id t)) ∙ find-top (numbered d.next_id t))
 
-pub insert-order : (parent index : ℕ) (t : Tree) (d : Document) → IsWellNumbered d → IsSome (name_at parent d.root)
-    → (front : List ℕ) × ((back : List ℕ) × (ids d.root ≡ front ++ back) × (ids (after_insert parent index t d).root ≡ front ++ (count_up d.next_id (size t) ++ back)))
+pub insert-order : (parent index : ℕ) (t : Tree) (d : Document) → IsWellNumbered d → IsSome (name_at parent d.root) → HasRun (ids (after_insert parent index t d).root) (count_up d.next_id (size t)) (ids d.root)
 insert-order parent index t d w h =
     let s : Spliced (ids (after_insert parent index t d).root) (count_up d.next_id (size t)) (ids d.root) = spliced-named parent index d.next_id t d.root w.0 h in
-    (s.front, (s.back, s.rest_is, s.whole_is))
+    (s.front, (s.back, s.whole_is, s.rest_is))

@@ -1,22 +1,22 @@
 -- Levels, and the height of a tree after an insert.
-use Rattle.std.proofs.Common.{◌≡◌, ◌⊎◌, ℕ, zero, suc, ◌+◌, ◌<◌, ◌≤◌, ◌==◌, max, nat_lt, List, [], ◌∷◌, ◌++◌, length, Bool, true, false, cond, Option, Some, None, option_map, option_and_then, unwrap_or, is_some, is_none, IsSome, refl, sym, ap, ap₂, ◌∙◌, subst, inl, inr, arith, eq-eqb, ne_eqb, lt-ltb, le-ltb, ltb-true, ltb-false}
-use Rattle.std.proofs.lemmas.Bool.{cases_Bool, eqb-true, false≢true}
+use Rattle.std.proofs.Common.{◌≡◌, ℕ, zero, suc, ◌+◌, ◌<◌, ◌≤◌, ◌==◌, max, nat_lt, List, [], ◌∷◌, length, Bool, false, cond, Option, Some, None, option_map, option_and_then, unwrap_or, is_some, is_none, IsSome, refl, sym, ap, ap₂, ◌∙◌, subst, inl, inr, arith, eq-eqb, ne_eqb, lt-ltb, le-ltb, ltb-true, ltb-false}
+use Rattle.std.proofs.lemmas.Bool.{cases_Bool, false≢true}
 use Rattle.std.proofs.lemmas.Option.{same_Some, none-some}
 use Rattle.page_model.specs.Trees.{Tree, elem, characters, Trees, no_trees, tree, size, depth, depths}
-use Rattle.page_model.specs.Document.{Node, element, text, Nodes, no_nodes, node, Document, document, numbered, all_numbered, id_of, ids_of, name_of, name_at, ids, all_ids, find, find_in, or_else, parent_in, parent_below, parent_of, is_among, IsAmong, AreDistinct, height, heights, node_count}
+use Rattle.page_model.specs.Document.{Node, element, text, Nodes, no_nodes, node, Document, document, numbered, all_numbered, id_of, ids_of, name_of, name_at, ids, all_ids, find, find_in, parent_in, parent_below, parent_of, is_among, IsAmong, AreDistinct, height, heights, node_count}
 use Rattle.page_model.specs.Limits.{max_depth, max_nodes, max_ids}
 use Rattle.page_model.specs.Refusals.{Refusal, Causes, first_of, no_node, not_element, bad_index, depth_limit, node_limit, id_limit}
 use Rattle.page_model.specs.Edits.{inserted, all_inserted, with_one, after_insert, level, level_in, child_count, tree_refusals, insert_refusals, load_refusals}
 use Rattle.page_model.proofs.Members.{among-left, among-right, among-kids, among-find, find-among, is_among-true, distinct-left, distinct-right, distinct-apart, if-found, or-found}
 use Rattle.page_model.proofs.Spliced.{Spliced, spliced-length}
 use Rattle.page_model.proofs.Levels.{level-found, level-element}
-use Rattle.page_model.proofs.Inserted.{inserted-absent, all_inserted-absent, unfound-absent}
+use Rattle.page_model.proofs.Inserted.{inserted-absent, all_inserted-absent}
 use Rattle.model_laws.specs.Counting.{count_up}
 use Rattle.model_laws.specs.Numbering.{IsWellNumbered}
 use Rattle.model_laws.specs.Children.{IsPlace}
 use Rattle.model_laws.specs.Bounds.{excess}
 use Rattle.model_laws.proofs.CountLemmas.{ids-numbered}
-use Rattle.model_laws.proofs.NumberingLemmas.{count_up-length, none-or-some, named-some, some-among, spliced-named}
+use Rattle.model_laws.proofs.NumberingLemmas.{count_up-length, none-or-some, named-some, spliced-named}
 
 -- ---- levels
 

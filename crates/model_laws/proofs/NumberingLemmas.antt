@@ -1,11 +1,10 @@
 -- The numbers of a document after an edit.
-use Rattle.std.proofs.Common.{◌≡◌, ◌⊎◌, ℕ, zero, suc, ◌+◌, ◌<◌, ◌≤◌, ◌==◌, List, [], ◌∷◌, ◌++◌, length, Bool, true, false, cond, Option, Some, None, option_and_then, is_some, IsSome, refl, sym, ap, ◌∙◌, subst, inl, inr, arith}
+use Rattle.std.proofs.Common.{◌≡◌, ◌⊎◌, ℕ, zero, suc, ◌+◌, ◌<◌, ◌≤◌, ◌==◌, List, length, Option, Some, None, option_and_then, is_some, IsSome, refl, sym, ap, ◌∙◌, subst, inl, inr, arith}
 use Rattle.std.proofs.lemmas.Bool.{cases_Bool, eqb-true, false≢true}
-use Rattle.std.proofs.lemmas.Option.{same_Some, none-some}
 use Rattle.page_model.specs.Trees.{Tree, size}
 use Rattle.page_model.specs.Document.{Node, element, text, Nodes, no_nodes, node, Document, document, numbered, id_of, name_of, name_at, ids, all_ids, find, find_in, IsAmong, AreDistinct}
 use Rattle.page_model.specs.Edits.{inserted, all_inserted, removed, all_removed, after_insert, after_remove}
-use Rattle.page_model.proofs.Members.{among-left, among-right, among-split, among-top, among-find, find-among, distinct-left, distinct-right, distinct-apart}
+use Rattle.page_model.proofs.Members.{among-left, among-right, among-split, find-among, distinct-left, distinct-right}
 use Rattle.page_model.proofs.Spliced.{Spliced, spliced-distinct, spliced-among, rest-distinct}
 use Rattle.page_model.proofs.Inserted.{inserted-absent, all_inserted-absent, unfound-absent, found-absent, ids-inserted}
 use Rattle.page_model.proofs.Removed.{removed-absent, all_removed-absent, ids-removed}

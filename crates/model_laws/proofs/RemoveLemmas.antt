@@ -1,16 +1,16 @@
 -- What is found in a tree after a remove.
-use Rattle.std.proofs.Common.{◌≡◌, ◌⊎◌, ℕ, zero, suc, ◌+◌, ◌<◌, ◌≤◌, ◌==◌, List, [], ◌∷◌, ◌++◌, length, Bool, true, false, cond, Option, Some, None, option_map, option_and_then, unwrap_or, is_some, IsSome, refl, sym, ap, ◌∙◌, subst, inl, inr, arith, eq-eqb, ne_eqb}
+use Rattle.std.proofs.Common.{◌≡◌, ℕ, zero, suc, ◌<◌, ◌==◌, List, ◌∷◌, false, Option, Some, None, option_map, option_and_then, is_some, IsSome, refl, sym, ap, ◌∙◌, subst, inl, inr, arith, eq-eqb, ne_eqb}
 use Rattle.std.proofs.lemmas.Bool.{cases_Bool, eqb-false, false≢true}
 use Rattle.page_model.specs.Trees.{Tree}
-use Rattle.page_model.specs.Document.{Node, element, text, Nodes, no_nodes, node, Document, numbered, id_of, kids_of, ids_of, name_of, name_at, ids, all_ids, find, find_in, or_else, IsAmong, AreDistinct}
+use Rattle.page_model.specs.Document.{Node, element, text, Nodes, no_nodes, node, Document, numbered, id_of, kids_of, ids_of, name_of, name_at, ids, all_ids, find, find_in, IsAmong, AreDistinct}
 use Rattle.page_model.specs.Edits.{with_one, inserted, all_inserted, removed, all_removed, after_insert, after_remove}
 use Rattle.page_model.proofs.Members.{among-left, among-right, among-split, among-top, among-find, find-among, distinct-left, distinct-right, distinct-apart}
 use Rattle.page_model.proofs.Spliced.{Spliced, spliced-among, part-apart}
 use Rattle.page_model.proofs.Inserted.{id_of-inserted}
 use Rattle.page_model.proofs.Removed.{id_of-removed, removed-absent, all_removed-absent, ids-removed}
-use Rattle.model_laws.specs.Numbering.{IsWellNumbered}
+use Rattle.model_laws.specs.Numbering.{IsWellNumbered, HasRun}
 use Rattle.model_laws.specs.Children.{child_ids, without, alone}
-use Rattle.model_laws.proofs.NumberingLemmas.{none-or-some, absent-none, some-among, among-kept, all_among-kept}
+use Rattle.model_laws.proofs.NumberingLemmas.{none-or-some, absent-none, among-kept, all_among-kept}
 use Rattle.model_laws.proofs.InsertLemmas.{child_ids-found, id_of-numbered}
 
 -- ---- a node that is kept is found as the remove left it
@@ -97,13 +97,12 @@ kept-list i d j w h = elim (none-or-some (find j d.root)) [
 spliced-removed : (i : ℕ) (d : Document) (n : Node) → IsWellNumbered d → find i d.root ≡ Some n → (i ≡ id_of d.root → ⊥) → Spliced (ids d.root) (ids n) (ids (after_remove i d).root)
 spliced-removed i d n w h other = ids-removed i d.root n w.0 h (ne_eqb i (id_of d.root) other)
 
-pub remove-order : (i : ℕ) (d : Document) (n : Node) → IsWellNumbered d → find i d.root ≡ Some n → (i ≡ id_of d.root → ⊥)
-    → (front : List ℕ) × ((back : List ℕ) × (ids d.root ≡ front ++ (ids n ++ back)) × (ids (after_remove i d).root ≡ front ++ back))
+pub remove-order : (i : ℕ) (d : Document) (n : Node) → IsWellNumbered d → find i d.root ≡ Some n → (i ≡ id_of d.root → ⊥) → HasRun (ids d.root) (ids n) (ids (after_remove i d).root)
 remove-order i d n w h other = let s : Spliced (ids d.root) (ids n) (ids (after_remove i d).root) = spliced-removed i d n w h other in (s.front, (s.back, s.whole_is, s.rest_is))
 
 pub gone-none : (i : ℕ) (d : Document) (n : Node) (j : ℕ) → IsWellNumbered d → find i d.root ≡ Some n → (i ≡ id_of d.root → ⊥) → IsAmong j (ids n) → find j (after_remove i d).root ≡ None
 gone-none i d n j w h other k = absent-none j (after_remove i d).root (λ a.
-  part-apart (ids d.root) (ids n) (ids (after_remove i d).root) (spliced-removed i d n w h other) w.0 j k a)
+    part-apart (ids d.root) (ids n) (ids (after_remove i d).root) (spliced-removed i d n w h other) w.0 j k a)
 
 pub kept-some : (i : ℕ) (d : Document) (n : Node) (j : ℕ) → IsWellNumbered d → find i d.root ≡ Some n → (i ≡ id_of d.root → ⊥) → IsSome (find j d.root) → (IsAmong j (ids n) → ⊥) → IsSome (find j (after_remove i d).root)
 kept-some i d n j w h other live out =

@@ -1,12 +1,12 @@
-ghost use Rattle.std.specs.Prelude.{◌≡◌, ◌≢◌, ◌<◌, ◌≤◌, ℕ, suc, ◌+◌, max, nat_lt, List, ◌∷◌, ◌++◌, take, drop, Some, None, IsSome, option_map};
+ghost use Rattle.std.specs.Prelude.{◌≡◌, ◌≢◌, ◌<◌, ◌≤◌, ℕ, suc, ◌+◌, max, nat_lt, Some, None, IsSome, option_map};
 ghost use Rattle.page_model.specs.Trees.{Tree, size, depth};
 ghost use Rattle.page_model.specs.Document.{Node, Document, document, numbered, id_of, find, name_at, parent_of, ids, IsAmong, AreDistinct, height, node_count};
 ghost use Rattle.page_model.specs.Limits.{max_depth};
 ghost use Rattle.page_model.specs.Edits.{after_insert, after_remove, level, insert_refusals, load_refusals};
 ghost use Rattle.page_model.specs.Refusals.{first_of};
 ghost use Rattle.model_laws.specs.Counting.{count_up};
-ghost use Rattle.model_laws.specs.Numbering.{IsWellNumbered};
-ghost use Rattle.model_laws.specs.Children.{child_ids, IsPlace, without, alone};
+ghost use Rattle.model_laws.specs.Numbering.{IsWellNumbered, HasRun};
+ghost use Rattle.model_laws.specs.Children.{child_ids, IsPlace, with_number, without, alone};
 ghost use Rattle.model_laws.specs.Bounds.{excess};
 
 /// No two nodes have the same number, after a load and each edit, and the number of a node that is gone is not given again.
@@ -22,13 +22,13 @@ pub fn a_number_is_given_once()
 
 /// An insert puts the new tree among the children of its parent, behind as many of them as was asked, and leaves each other node and list of children as it was (DOM section 4.2.3).
 pub fn an_insert_changes_one_child_list()
-    ensures child_list { (parent index : ℕ) (t : Tree) (d : Document) → IsWellNumbered d → IsPlace parent index d → child_ids parent (after_insert parent index t d).root ≡ take index (child_ids parent d.root) ++ d.next_id ∷ drop index (child_ids parent d.root) }
+    ensures child_list { (parent index : ℕ) (t : Tree) (d : Document) → IsWellNumbered d → IsSome (name_at parent d.root) → child_ids parent (after_insert parent index t d).root ≡ with_number index d.next_id (child_ids parent d.root) }
     ensures other_lists { (parent index : ℕ) (t : Tree) (d : Document) (j : ℕ) → IsWellNumbered d → j < d.next_id → j ≢ parent → child_ids j (after_insert parent index t d).root ≡ child_ids j d.root }
     ensures new_tree { (parent index : ℕ) (t : Tree) (d : Document) → IsWellNumbered d → IsSome (name_at parent d.root) → find d.next_id (after_insert parent index t d).root ≡ Some (numbered d.next_id t) }
     ensures new_nodes { (parent index : ℕ) (t : Tree) (d : Document) (j : ℕ) → IsWellNumbered d → IsSome (name_at parent d.root) → d.next_id ≤ j → find j (after_insert parent index t d).root ≡ find j (numbered d.next_id t) }
     ensures names { (parent index : ℕ) (t : Tree) (d : Document) (j : ℕ) → IsWellNumbered d → j < d.next_id → name_at j (after_insert parent index t d).root ≡ name_at j d.root }
     ensures nodes { (parent index : ℕ) (t : Tree) (d : Document) (j : ℕ) → IsWellNumbered d → j < d.next_id → option_map alone (find j (after_insert parent index t d).root) ≡ option_map alone (find j d.root) }
-    ensures document_order { (parent index : ℕ) (t : Tree) (d : Document) → IsWellNumbered d → IsSome (name_at parent d.root) → (front : List ℕ) × ((back : List ℕ) × (ids d.root ≡ front ++ back) × (ids (after_insert parent index t d).root ≡ front ++ (count_up d.next_id (size t) ++ back))) }
+    ensures document_order { (parent index : ℕ) (t : Tree) (d : Document) → IsWellNumbered d → IsSome (name_at parent d.root) → HasRun (ids (after_insert parent index t d).root) (count_up d.next_id (size t)) (ids d.root) }
 {}
 
 /// The root stands at level 1, and a child one level below its parent.
@@ -37,7 +37,7 @@ pub fn a_level_counts_from_the_root()
     ensures child { (root : Node) (i parent : ℕ) → AreDistinct (ids root) → parent_of i root ≡ Some parent → level i root ≡ option_map (λ l. suc l) (level parent root) }
 {}
 
-/// A load and an insert are refused for a limit exactly where the document after them would break it.
+/// The limit that refuses a load, or an insert into a document that is not too deep, is the first that the document after it would break.
 pub fn the_limits_are_those_of_the_document_after()
     ensures height_after { (parent index : ℕ) (t : Tree) (d : Document) (l : ℕ) → IsWellNumbered d → IsSome (name_at parent d.root) → level parent d.root ≡ Some l → height (after_insert parent index t d).root ≡ max (height d.root) (l + depth t) }
     ensures count_after { (parent index : ℕ) (t : Tree) (d : Document) → IsWellNumbered d → IsSome (name_at parent d.root) → node_count (after_insert parent index t d).root ≡ node_count d.root + size t }
@@ -48,7 +48,7 @@ pub fn the_limits_are_those_of_the_document_after()
 
 /// A remove takes a node out with all below it, and leaves each other node as it was, and of each list of children all others (DOM section 4.2.3).
 pub fn a_remove_takes_out_a_subtree()
-    ensures document_order { (i : ℕ) (d : Document) (n : Node) → IsWellNumbered d → find i d.root ≡ Some n → i ≢ id_of d.root → (front : List ℕ) × ((back : List ℕ) × (ids d.root ≡ front ++ (ids n ++ back)) × (ids (after_remove i d).root ≡ front ++ back)) }
+    ensures document_order { (i : ℕ) (d : Document) (n : Node) → IsWellNumbered d → find i d.root ≡ Some n → i ≢ id_of d.root → HasRun (ids d.root) (ids n) (ids (after_remove i d).root) }
     ensures gone { (i : ℕ) (d : Document) (n : Node) (j : ℕ) → IsWellNumbered d → find i d.root ≡ Some n → i ≢ id_of d.root → IsAmong j (ids n) → find j (after_remove i d).root ≡ None }
     ensures kept { (i : ℕ) (d : Document) (n : Node) (j : ℕ) → IsWellNumbered d → find i d.root ≡ Some n → i ≢ id_of d.root → IsSome (find j d.root) → (IsAmong j (ids n) → ⊥) → IsSome (find j (after_remove i d).root) }
     ensures child_lists { (i : ℕ) (d : Document) (j : ℕ) → IsWellNumbered d → IsSome (find j (after_remove i d).root) → child_ids j (after_remove i d).root ≡ without i (child_ids j d.root) }

@@ -2,7 +2,7 @@ use Rattle.model_laws.proofs.InsertLemmas.{parent-list, other-list, new-found, n
 use Rattle.model_laws.proofs.edits.an_insert_changes_one_child_list.Goals as goal
 
 pub returns-clause-child_list : goal.returns-clause-child_list
-returns-clause-child_list c = λ parent index t d w place. parent-list parent index t d w place
+returns-clause-child_list c = λ parent index t d w h. parent-list parent index t d w h
 
 pub returns-clause-other_lists : goal.returns-clause-other_lists
 returns-clause-other_lists c = λ parent index t d j w low other. other-list parent index t d j w low other
