@@ -10,3 +10,7 @@ pub mod Writes
 pub mod Same
 pub mod Placed
 pub mod Cleared
+pub mod Counted
+pub mod Grown
+pub mod Enlarged
+pub mod Shrunk

@@ -65,7 +65,7 @@ mutual
             (HoldsAll-rows (front ++ row) back up (suc place) (n + size t) ts len),
       )
 
-live-within : (slots : List (Option Slot)) (i : ℕ) → is_some (slot_at slots i) ≡ true → i < length slots
+pub live-within : (slots : List (Option Slot)) (i : ℕ) → is_some (slot_at slots i) ≡ true → i < length slots
 live-within slots i h = elim (cases_lt i (length slots)) [
   | inl l ↦ l
   | inr l ↦ absurd (false≢true (ap (λ (o : Option (Option Slot)). is_some (option_flatten o)) (sym (slice_get_past slots i l)) ∙ h))

@@ -1,12 +1,12 @@
 -- The tree in which an element has one more child.
-use Rattle.std.proofs.Common.{◌≡◌, ◌⊎◌, ℕ, zero, suc, ◌+◌, ◌≤◌, ◌==◌, max, List, [], ◌∷◌, ◌++◌, length, Bool, true, false, cond, Option, Some, None, is_some, IsSome, refl, sym, ap, ◌∙◌, subst, inl, inr, arith, append-nil}
+use Rattle.std.proofs.Common.{◌≡◌, ℕ, zero, suc, ◌+◌, ◌≤◌, ◌==◌, max, [], ◌∷◌, ◌++◌, Some, None, is_some, IsSome, refl, sym, ap, ◌∙◌, inl, inr, arith}
 use Rattle.std.proofs.lemmas.Bool.{cases_Bool, eqb-true, false≢true}
 use Rattle.std.proofs.lemmas.Option.{same_Some, none-some}
-use Rattle.page_model.specs.Document.{Node, element, text, Nodes, no_nodes, node, id_of, ids_of, name_of, ids, all_ids, find, find_in, height, heights, IsAmong, AreDistinct, node_count}
+use Rattle.page_model.specs.Document.{Node, element, text, Nodes, no_nodes, node, id_of, ids_of, name_of, ids, all_ids, find, find_in, height, heights, IsAmong, AreDistinct}
 use Rattle.page_model.specs.Edits.{with_one, inserted, all_inserted, level, level_in}
-use Rattle.page_model.proofs.Members.{among-left, among-right, among-find, among-find_in, find-among, find_in-among, distinct-left, distinct-right, distinct-apart, if-found, or-found}
+use Rattle.page_model.proofs.Members.{among-left, among-right, among-find, find-among, distinct-left, distinct-right, distinct-apart, if-found, or-found}
 use Rattle.page_model.proofs.Spliced.{Spliced, spliced-here, spliced-cons, spliced-left, spliced-right}
-use Rattle.page_model.proofs.Levels.{level-element, level-found, level-height, level_in-height}
+use Rattle.page_model.proofs.Levels.{level-element, level-found}
 
 pub id_of-inserted : (parent index : ℕ) (new n : Node) → id_of (inserted parent index new n) ≡ id_of n
 id_of-inserted parent index new (element id name attributes kids) = refl

@@ -1,8 +1,8 @@
 -- The level of a node: it has one where it is found, and none is below the height.
-use Rattle.std.proofs.Common.{◌≡◌, ◌⊎◌, ℕ, zero, suc, ◌+◌, ◌≤◌, ◌<◌, ◌==◌, max, List, Bool, true, false, cond, Option, Some, None, option_map, is_some, refl, sym, ap, ◌∙◌, inl, inr, arith}
+use Rattle.std.proofs.Common.{◌≡◌, ◌⊎◌, ℕ, suc, ◌≤◌, ◌==◌, Bool, true, false, cond, Option, Some, None, option_map, is_some, refl, sym, ◌∙◌, inl, inr, arith}
 use Rattle.std.proofs.lemmas.Bool.{cases_Bool, false≢true}
 use Rattle.std.proofs.lemmas.Option.{same_Some, none-some}
-use Rattle.page_model.specs.Document.{Node, element, text, Nodes, no_nodes, node, id_of, find, find_in, or_else, height, heights}
+use Rattle.page_model.specs.Document.{Node, element, text, Nodes, no_nodes, node, find, find_in, or_else, height, heights}
 use Rattle.page_model.specs.Edits.{level, level_in}
 use Rattle.page_model.proofs.Members.{or-found}
 

@@ -1,4 +1,5 @@
 pub mod Members
+pub mod Parents
 pub mod Spliced
 pub mod Levels
 pub mod Inserted

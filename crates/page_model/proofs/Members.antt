@@ -1,7 +1,8 @@
 -- Lists of numbers without one that stands twice, and the numbers of what is found.
-use Rattle.std.proofs.Common.{◌≡◌, ◌⊎◌, ℕ, ◌==◌, ◌||◌, List, [], ◌∷◌, ◌++◌, Bool, true, false, cond, Option, Some, None, is_some, refl, sym, ap, ◌∙◌, subst, inl, inr, eq-eqb}
+use Rattle.std.proofs.Common.{◌≡◌, ◌⊎◌, ℕ, ◌==◌, ◌||◌, List, [], ◌∷◌, ◌++◌, Bool, true, false, cond, Option, Some, None, is_some, refl, sym, subst, inl, inr, eq-eqb}
 use Rattle.std.proofs.lemmas.Bool.{cases_Bool, eqb-true, false≢true}
-use Rattle.page_model.specs.Document.{Node, element, text, Nodes, no_nodes, node, id_of, kids_of, ids_of, ids, all_ids, find, find_in, or_else, IsAmong, AreDistinct, is_among}
+use Rattle.std.proofs.lemmas.Option.{same_Some, none-some}
+use Rattle.page_model.specs.Document.{Node, element, text, Nodes, no_nodes, node, id_of, ids_of, ids, all_ids, find, find_in, or_else, IsAmong, AreDistinct, is_among}
 
 -- ---- lists of numbers
 
@@ -124,3 +125,39 @@ if-found false x y o h = inr (refl, h)
 pub or-found : {X : Type 0} (o p : Option X) (y : X) → or_else o p ≡ Some y → (o ≡ Some y) ⊎ ((o ≡ None) × (p ≡ Some y))
 or-found (Some x) p y h = inl h
 or-found None p y h = inr (refl, h)
+
+mutual
+  pub find-part : (i : ℕ) (n p : Node) (x : ℕ) → find i n ≡ Some p → IsAmong x (ids p) → IsAmong x (ids n)
+  find-part i (element id name attributes kids) p x h k = elim (if-found (i == id) (element id name attributes kids) p (find_in i kids) h) [
+    | inl e ↦ subst (λ (m : Node). IsAmong x (ids m)) (sym (same_Some (element id name attributes kids) p e.1)) k
+    | inr e ↦ inr (find_in-part i kids p x e.1 k)
+  ]
+  find-part i (text id cs) p x h k = elim (if-found (i == id) (text id cs) p None h) [
+    | inl e ↦ subst (λ (m : Node). IsAmong x (ids m)) (sym (same_Some (text id cs) p e.1)) k
+    | inr e ↦ absurd (none-some p e.1)
+  ]
+
+  pub find_in-part : (i : ℕ) (ns : Nodes) (p : Node) (x : ℕ) → find_in i ns ≡ Some p → IsAmong x (ids p) → IsAmong x (all_ids ns)
+  find_in-part i no_nodes p x h k = absurd (none-some p h)
+  find_in-part i (node n ns) p x h k = elim (or-found (find i n) (find_in i ns) p h) [
+    | inl e ↦ among-left x (ids n) (all_ids ns) (find-part i n p x e k)
+    | inr e ↦ among-right x (ids n) (all_ids ns) (find_in-part i ns p x e.1 k)
+  ]
+
+mutual
+  pub find-distinct : (i : ℕ) (n p : Node) → find i n ≡ Some p → AreDistinct (ids n) → AreDistinct (ids p)
+  find-distinct i (element id name attributes kids) p h d = elim (if-found (i == id) (element id name attributes kids) p (find_in i kids) h) [
+    | inl e ↦ subst (λ (m : Node). AreDistinct (ids m)) (same_Some (element id name attributes kids) p e.1) d
+    | inr e ↦ find_in-distinct i kids p e.1 d.1
+  ]
+  find-distinct i (text id cs) p h d = elim (if-found (i == id) (text id cs) p None h) [
+    | inl e ↦ subst (λ (m : Node). AreDistinct (ids m)) (same_Some (text id cs) p e.1) d
+    | inr e ↦ absurd (none-some p e.1)
+  ]
+
+  pub find_in-distinct : (i : ℕ) (ns : Nodes) (p : Node) → find_in i ns ≡ Some p → AreDistinct (all_ids ns) → AreDistinct (ids p)
+  find_in-distinct i no_nodes p h d = absurd (none-some p h)
+  find_in-distinct i (node n ns) p h d = elim (or-found (find i n) (find_in i ns) p h) [
+    | inl e ↦ find-distinct i n p e (distinct-left (ids n) (all_ids ns) d)
+    | inr e ↦ find_in-distinct i ns p e.1 (distinct-right (ids n) (all_ids ns) d)
+  ]

@@ -1,10 +1,10 @@
 -- The tree without a node and all below it.
-use Rattle.std.proofs.Common.{◌≡◌, ◌⊎◌, ◌≢◌, ℕ, zero, suc, ◌+◌, ◌≤◌, ◌==◌, max, List, [], ◌∷◌, ◌++◌, Bool, true, false, cond, Option, Some, None, is_some, refl, sym, ap, ◌∙◌, subst, inl, inr, arith, eq-eqb}
-use Rattle.std.proofs.lemmas.Bool.{cases_Bool, eqb-true, false≢true}
+use Rattle.std.proofs.Common.{◌≡◌, ℕ, ◌≤◌, ◌==◌, false, cond, Some, None, refl, sym, ap, ◌∙◌, subst, inl, inr, arith, eq-eqb}
+use Rattle.std.proofs.lemmas.Bool.{cases_Bool, eqb-true}
 use Rattle.std.proofs.lemmas.Option.{same_Some, none-some}
-use Rattle.page_model.specs.Document.{Node, element, text, Nodes, no_nodes, node, id_of, ids_of, name_of, ids, all_ids, find, find_in, height, heights, IsAmong, AreDistinct}
+use Rattle.page_model.specs.Document.{Node, element, text, Nodes, no_nodes, node, id_of, name_of, ids, all_ids, find, find_in, height, heights, IsAmong, AreDistinct}
 use Rattle.page_model.specs.Edits.{removed, all_removed}
-use Rattle.page_model.proofs.Members.{among-left, among-right, among-top, distinct-left, distinct-right, distinct-apart, if-found, or-found}
+use Rattle.page_model.proofs.Members.{among-split, among-left, among-right, among-top, distinct-left, distinct-right, or-found}
 use Rattle.page_model.proofs.Spliced.{Spliced, spliced-here, spliced-cons, spliced-left, spliced-right}
 use Rattle.page_model.proofs.Inserted.{unfound-absent, found-absent}
 
@@ -34,6 +34,22 @@ mutual
   ]
 
 -- ---- the numbers
+
+mutual
+  pub removed-part : (i : ℕ) (n : Node) (x : ℕ) → IsAmong x (ids (removed i n)) → IsAmong x (ids n)
+  removed-part i (element id name attributes kids) x (inl e) = inl e
+  removed-part i (element id name attributes kids) x (inr h) = inr (all_removed-part i kids x h)
+  removed-part i (text id cs) x h = h
+
+  pub all_removed-part : (i : ℕ) (ns : Nodes) (x : ℕ) → IsAmong x (all_ids (all_removed i ns)) → IsAmong x (all_ids ns)
+  all_removed-part i no_nodes x h = h
+  all_removed-part i (node n ns) x h = elim (cases_Bool (i == id_of n)) [
+    | inl t ↦ among-right x (ids n) (all_ids ns) (all_removed-part i ns x (rw t at h))
+    | inr f ↦ elim (among-split x (ids (removed i n)) (all_ids (all_removed i ns)) (rw f at h)) [
+      | inl k ↦ among-left x (ids n) (all_ids ns) (removed-part i n x k)
+      | inr k ↦ among-right x (ids n) (all_ids ns) (all_removed-part i ns x k)
+    ]
+  ]
 
 pub find-top : (n : Node) → find (id_of n) n ≡ Some n
 find-top (element id name attributes kids) = ap (λ b. cond b (Some (element id name attributes kids)) (find_in id kids)) (eq-eqb id id refl)
