@@ -1,8 +1,10 @@
 -- What a table that holds a tree says of each number.
-use Rattle.std.proofs.Common.{◌≡◌, ℕ, zero, suc, ◌+◌, ◌==◌, ◌||◌, List, [], ◌∷◌, true, false, Option, Some, None, option_map, is_some, IfSome, refl, sym, ap, ◌∙◌, inl, inr, arith, eqb-true}
+use Rattle.std.proofs.Common.{subst, ◌≡◌, ℕ, zero, suc, ◌+◌, ◌==◌, ◌||◌, List, [], ◌∷◌, true, false, Option, Some, None, option_map, is_some, IfSome, refl, sym, ap, ◌∙◌, inl, inr, arith, eqb-true}
 use Rattle.std.specs.List.{slice_get}
 use Rattle.std.proofs.lemmas.Bool.{cases_Bool, false≢true}
 use Rattle.page_model.specs.Document.{Node, element, text, Nodes, no_nodes, node, id_of, kids_of, ids_of, find, find_in, parent_in, parent_below, is_among, first, after, before}
+use Rattle.std.proofs.lemmas.Option.{same_Some, none-some}
+use Rattle.page_model.proofs.Members.{if-found, or-found}
 use Rattle.dom_arena.specs.declared.slot.Slot.{Slot}
 use Rattle.dom_arena.specs.declared.slot.Content.{Content}
 use Rattle.dom_arena.specs.Table.{slot_at, content_of, slot_of, Holds, HoldsAll, kids_at, preceding}
@@ -45,6 +47,7 @@ pub record IsKid (slots : List (Option Slot)) (i up from : ℕ) (xs : List ℕ) 
   pub at : ℕ
   pub content : Content
   pub slot : slot_at slots i ≡ Some (record { parent = Some up; place = from + at; content = content })
+  pub here : slice_get xs at ≡ Some i
   pub after : after i xs ≡ slice_get xs (suc at)
   pub before : (last : Option ℕ) → before i last xs ≡ preceding last xs at
 
@@ -61,6 +64,7 @@ IsKid-here slots i up from y ys n t h = record {
   at = 0;
   content = content_of n;
   slot = ap (slot_at slots) (eqb-true i y t) ∙ (h ∙ ap (λ p. Some (record { parent = Some up; place = p; content = content_of n })) (omega arith));
+  here = ap Some (sym (eqb-true i y t));
   after = rw t (first-slice_get ys);
   before = λ last. rw t refl;
 }
@@ -70,6 +74,7 @@ IsKid-there slots i up from y ys f k = record {
   at = suc k.at;
   content = k.content;
   slot = k.slot ∙ ap (λ p. Some (record { parent = Some up; place = p; content = k.content })) (omega arith);
+  here = k.here;
   after = rw f k.after;
   before = λ last. rw f (k.before (Some y) ∙ preceding-cons last y ys k.at);
 }
@@ -116,3 +121,42 @@ mutual
       ∙ (ap (λ b. ((i == id_of n) || is_some (parent_in i n)) || b) (find_in-parent i ns)
       ∙ (or_or (i == id_of n) (is_some (parent_in i n)) (is_among i (ids_of ns)) (is_some (parent_below i ns))
       ∙ ap (λ b. ((i == id_of n) || is_among i (ids_of ns)) || b) (sym (is_some-or_else (parent_in i n) (parent_below i ns))))))
+
+-- ---- what is found, and what is a parent, is held
+
+-- the slots hold this node, with some parent and at some place
+abbrev pub IsHeld : List (Option Slot) → Node → Type 0
+IsHeld slots n = (up : Option ℕ) × (place : ℕ) × Holds slots up place n
+
+mutual
+  pub find-held : (slots : List (Option Slot)) (up : Option ℕ) (place i : ℕ) (n p : Node) → Holds slots up place n → find i n ≡ Some p → IsHeld slots p
+  find-held slots up place i (element id name attributes kids) p h f = elim (if-found (i == id) (element id name attributes kids) p (find_in i kids) f) [
+    | inl k ↦ subst (IsHeld slots) (same_Some (element id name attributes kids) p k.1) (up, place, h)
+    | inr k ↦ find_in-held slots id 0 i kids p h.1 k.1
+  ]
+  find-held slots up place i (text id cs) p h f = elim (if-found (i == id) (text id cs) p None f) [
+    | inl k ↦ subst (IsHeld slots) (same_Some (text id cs) p k.1) (up, place, h)
+    | inr k ↦ absurd (none-some p k.1)
+  ]
+
+  pub find_in-held : (slots : List (Option Slot)) (up place i : ℕ) (ns : Nodes) (p : Node) → HoldsAll slots up place ns → find_in i ns ≡ Some p → IsHeld slots p
+  find_in-held slots up place i no_nodes p h f = absurd (none-some p f)
+  find_in-held slots up place i (node n ns) p h f = elim (or-found (find i n) (find_in i ns) p f) [
+    | inl k ↦ find-held slots (Some up) place i n p h.0 k
+    | inr k ↦ find_in-held slots up (suc place) i ns p h.1 k.1
+  ]
+
+mutual
+  pub parent-held_at : (slots : List (Option Slot)) (up : Option ℕ) (place i : ℕ) (n p : Node) → Holds slots up place n → parent_in i n ≡ Some p → IsHeld slots p
+  parent-held_at slots up place i (element id name attributes kids) p h f = elim (if-found (is_among i (ids_of kids)) (element id name attributes kids) p (parent_below i kids) f) [
+    | inl k ↦ subst (IsHeld slots) (same_Some (element id name attributes kids) p k.1) (up, place, h)
+    | inr k ↦ parent_below-held_at slots id 0 i kids p h.1 k.1
+  ]
+  parent-held_at slots up place i (text id cs) p h f = absurd (none-some p f)
+
+  pub parent_below-held_at : (slots : List (Option Slot)) (up place i : ℕ) (ns : Nodes) (p : Node) → HoldsAll slots up place ns → parent_below i ns ≡ Some p → IsHeld slots p
+  parent_below-held_at slots up place i no_nodes p h f = absurd (none-some p f)
+  parent_below-held_at slots up place i (node n ns) p h f = elim (or-found (parent_in i n) (parent_below i ns) p f) [
+    | inl k ↦ parent-held_at slots (Some up) place i n p h.0 k
+    | inr k ↦ parent_below-held_at slots up (suc place) i ns p h.1 k.1
+  ]

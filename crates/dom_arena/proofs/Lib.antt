@@ -2,6 +2,15 @@ pub mod Options
 pub mod Held
 pub mod Readings
 pub mod Rows
+pub mod Checked
 pub mod Numbered
 pub mod Loaded
 pub mod Found
+pub mod Writes
+pub mod Same
+pub mod Placed
+pub mod Cleared
+pub mod Counted
+pub mod Grown
+pub mod Enlarged
+pub mod Shrunk

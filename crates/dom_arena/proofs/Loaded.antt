@@ -5,7 +5,7 @@ use Rattle.std.specs.Option.{option_flatten}
 use Rattle.std.proofs.lemmas.Bool.{cases_lt, false≢true}
 use Rattle.std.proofs.lemmas.Option.{slice_get_past}
 use Rattle.page_model.specs.Trees.{Tree, Trees, no_trees, tree, elem, characters, is_elem, size, depth}
-use Rattle.page_model.specs.Document.{Document, document, Node, element, text, Nodes, no_nodes, node, nodes_of, id_of, ids_of, numbered, all_numbered, height, heights}
+use Rattle.page_model.specs.Document.{Document, document, Node, element, text, Nodes, no_nodes, node, nodes_of, id_of, ids_of, numbered, all_numbered, height, heights, node_count}
 use Rattle.page_model.specs.Limits.{max_nodes, max_depth}
 use Rattle.dom_arena.specs.declared.slot.Slot.{Slot}
 use Rattle.dom_arena.specs.Table.{slot_at, slot_of, Holds, HoldsAll, IsTable, below, node_of, tree_in}
@@ -65,7 +65,7 @@ mutual
             (HoldsAll-rows (front ++ row) back up (suc place) (n + size t) ts len),
       )
 
-live-within : (slots : List (Option Slot)) (i : ℕ) → is_some (slot_at slots i) ≡ true → i < length slots
+pub live-within : (slots : List (Option Slot)) (i : ℕ) → is_some (slot_at slots i) ≡ true → i < length slots
 live-within slots i h = elim (cases_lt i (length slots)) [
   | inl l ↦ l
   | inr l ↦ absurd (false≢true (ap (λ (o : Option (Option Slot)). is_some (option_flatten o)) (sym (slice_get_past slots i l)) ∙ h))
@@ -85,6 +85,7 @@ IsTable-rows t e few low = record {
       let w : i < size t = within-numbered t i h in
       let n : length (rows None 0 (numbered 0 t)) ≡ size t = length-rows None 0 0 t in
       omega arith;
+  given = let n : length (rows None 0 (numbered 0 t)) ≡ size t = length-rows None 0 0 t in omega arith;
   few = subst (λ (k : ℕ). k ≤ max_nodes) (sym (node_count-numbered 0 t)) few;
   low = subst (λ (k : ℕ). k ≤ max_depth) (sym (height-numbered 0 t)) low;
 }
@@ -113,3 +114,8 @@ document-made old slots t e made low =
     let root : tree_in slots ≡ numbered 0 t = ap tree_in is ∙ tree_in-rows t low in
     let next : length slots ≡ size t = ap length is ∙ length-rows None 0 0 t in
     λ j. record { root = root j; next_id = next j }
+
+pub count-made : (old slots : List (Option Slot)) (t : Tree) → old ≡ [] → slots ≡ old ++ rows None 0 (numbered (length old) t) → depth t ≤ max_depth → length slots ≡ node_count (tree_in slots)
+count-made old slots t e made low =
+    let is : slots ≡ rows None 0 (numbered 0 t) = rows-made old slots t e made in
+    ap length is ∙ (length-rows None 0 0 t ∙ (sym (node_count-numbered 0 t) ∙ sym (ap node_count (ap tree_in is ∙ tree_in-rows t low))))

@@ -32,7 +32,7 @@ length-count : (n k : ℕ) → length (count n k) ≡ k
 length-count n zero = refl
 length-count n (suc k) = ap suc (length-count (suc n) k)
 
-count-within : (i n k : ℕ) → IsAmong i (count n k) → (n ≤ i) × (i < n + k)
+pub count-within : (i n k : ℕ) → IsAmong i (count n k) → (n ≤ i) × (i < n + k)
 count-within i n zero h = absurd h
 count-within i n (suc k) (inl e) = (omega arith, omega arith)
 count-within i n (suc k) (inr h) =

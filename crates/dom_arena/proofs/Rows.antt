@@ -8,7 +8,7 @@ use Rattle.dom_arena.specs.declared.slot.Slot.{Slot}
 use Rattle.dom_arena.specs.declared.slot.Content.TheVariants.{Element}
 use Rattle.dom_arena.specs.declared.tree.Tree.{Tree}
 use Rattle.dom_arena.specs.Shape.{shape}
-use Rattle.dom_arena.specs.Rows.{rows, all_rows}
+use Rattle.dom_arena.specs.Rows.{rows, all_rows, IsLonger}
 
 mutual
   pub length-rows : (up : Option ℕ) (place n : ℕ) (t : model.Tree) → length (rows up place (numbered n t)) ≡ size t
@@ -77,3 +77,14 @@ element-copied old a b d up place id name attributes numbers kids is pushed all 
     let slot : Option Slot = Some (record { parent = up; place = place; content = Element name attributes numbers }) in
     set ∙ (ap (λ s. slice_set s id slot) b_is ∙ (set_at old None rest slot id (sym is)
     ∙ ap (λ k. old ++ Some (record { parent = up; place = place; content = Element name attributes k }) ∷ rest) (ks ∙ ap (λ k. ids_of (all_numbered k kids)) n)))
+
+-- ---- tables that grow
+
+pub longer-more : (a b more : List (Option Slot)) → b ≡ a ++ more → IsLonger a b
+longer-more a b more e = (more, e)
+
+pub longer-trans : (a b c : List (Option Slot)) → IsLonger a b → IsLonger b c → IsLonger a c
+longer-trans a b c p q = (p.0 ++ q.0, q.1 ∙ (ap (λ s. s ++ q.0) p.1 ∙ append_assoc a p.0 q.0))
+
+pub longer-rows : (a b c more : List (Option Slot)) → IsLonger a b → c ≡ b ++ more → IsLonger a c
+longer-rows a b c more p e = longer-trans a b c p (more, e)

@@ -1,5 +1,5 @@
 -- The refusals that a document's faults are.
-use Rattle.std.specs.Prelude.{◌≡◌, ◌⊎◌, Option, Some, None, Result, Ok, Err}
+use Rattle.std.specs.Prelude.{◌≡◌, ◌≢◌, ◌⊎◌, Option, Some, None, Result, Ok, Err}
 use Rattle.page_model.specs.Refusals.{Refusal, no_node, not_element, is_root, bad_index, node_limit, depth_limit, id_limit, Causes, first_of}
 use Rattle.dom_arena.specs.declared.fault.DocFault.{DocFault}
 use Rattle.dom_arena.specs.declared.fault.DocFault.TheVariants.{NoMemory, NoNode, NotElement, IsRoot, BadIndex, NodeLimit, DepthLimit, IdLimit}
@@ -19,3 +19,8 @@ refusal_in IdLimit = Some id_limit
 abbrev pub AnswersBy : {X : Type 0} → Causes → Result X DocFault → Type 0
 AnswersBy causes (Ok x) = first_of causes ≡ None
 AnswersBy causes (Err e) = (e ≡ NoMemory) ⊎ (first_of causes ≡ refusal_in e)
+
+-- what a check answers, which takes no memory: the first cause that holds, or none
+abbrev pub ChecksBy : {X : Type 0} → Causes → Result X DocFault → Type 0
+ChecksBy causes (Ok x) = first_of causes ≡ None
+ChecksBy causes (Err e) = (e ≢ NoMemory) × (first_of causes ≡ refusal_in e)

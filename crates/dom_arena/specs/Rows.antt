@@ -1,5 +1,5 @@
 -- The slots that a tree makes, in document order.
-use Rattle.std.specs.Prelude.{ℕ, suc, List, [], ◌∷◌, ◌++◌, Option, Some}
+use Rattle.std.specs.Prelude.{◌≡◌, ℕ, suc, List, [], ◌∷◌, ◌++◌, Option, Some}
 use Rattle.page_model.specs.Document.{Node, element, text, Nodes, no_nodes, node}
 use Rattle.dom_arena.specs.declared.slot.Slot.{Slot}
 use Rattle.dom_arena.specs.Table.{slot_of}
@@ -14,3 +14,7 @@ abbrev mutual
   pub all_rows : ℕ → ℕ → Nodes → List (Option Slot)
   all_rows up place no_nodes = []
   all_rows up place (node n ns) = rows (Some up) place n ++ all_rows up (suc place) ns
+
+-- more slots stand behind the old ones
+abbrev pub IsLonger : List (Option Slot) → List (Option Slot) → Type 0
+IsLonger old new = (more : List (Option Slot)) × (new ≡ old ++ more)

@@ -1,10 +1,10 @@
 //! Copying a tree into a table of slots.
-ghost use Rattle.std.specs.Prelude.{◌≡◌, ◌+◌, ◌≤◌, ◌++◌, length, map, IfOk, OnOk};
+ghost use Rattle.std.specs.Prelude.{◌≡◌, ◌+◌, ◌≤◌, ◌++◌, length, map, IfOk, OnOk, OnErr};
 ghost use Rattle.page_model.specs.Trees.{elem, characters, size, sizes, trees_of};
 ghost use Rattle.page_model.specs.Document.{numbered, all_numbered, ids_of};
-ghost use Rattle.page_model.specs.Limits.{max_nodes};
+ghost use Rattle.page_model.specs.Limits.{max_ids};
 ghost use Rattle.dom_arena.specs.Shape.{shape};
-ghost use Rattle.dom_arena.specs.Rows.{rows, all_rows};
+ghost use Rattle.dom_arena.specs.Rows.{rows, all_rows, IsLonger};
 
 use super::slot::{Content, Slot};
 use super::tree::Tree;
@@ -36,14 +36,15 @@ fn copy_attributes(
 #[cycle(append)]
 pub fn append(
     alloc: Global,
-    slots: &mut Seq<Option<Slot>>,
+    slots: &mut Vec<Option<Slot>>,
     tree: &Tree,
     parent: Option<NodeId>,
-    place: u32,
+    place: usize,
 ) -> Result<NodeId, NoMemory>
-    requires room { length slots.old + size (shape tree.now) ≤ max_nodes }
-    ensures number { IfOk result (λ id. id ≡ length slots.old) }
-    ensures copied { OnOk result (slots.new ≡ slots.old ++ rows parent place (numbered (length slots.old) (shape tree.now))) }
+    requires room { length slots.old.items + size (shape tree.now) ≤ max_ids }
+    ensures number { IfOk result (λ id. id ≡ length slots.old.items) }
+    ensures copied { OnOk result (slots.new.items ≡ slots.old.items ++ rows parent place (numbered (length slots.old.items) (shape tree.now))) }
+    ensures longer { OnErr result (IsLonger slots.old.items slots.new.items) }
 {
     match tree {
         Tree::Elem(name, attributes, kids) => append_element(
@@ -61,14 +62,15 @@ pub fn append(
 
 fn append_text(
     alloc: Global,
-    slots: &mut Seq<Option<Slot>>,
+    slots: &mut Vec<Option<Slot>>,
     text: &Text,
     parent: Option<NodeId>,
-    place: u32,
+    place: usize,
 ) -> Result<NodeId, NoMemory>
-    requires room { length slots.old + 1 ≤ max_nodes }
-    ensures number { IfOk result (λ id. id ≡ length slots.old) }
-    ensures copied { OnOk result (slots.new ≡ slots.old ++ rows parent place (numbered (length slots.old) (characters text.now))) }
+    requires room { length slots.old.items + 1 ≤ max_ids }
+    ensures number { IfOk result (λ id. id ≡ length slots.old.items) }
+    ensures copied { OnOk result (slots.new.items ≡ slots.old.items ++ rows parent place (numbered (length slots.old.items) (characters text.now))) }
+    ensures longer { OnErr result (IsLonger slots.old.items slots.new.items) }
 {
     let id = slots.len() as NodeId;
     let content = Content::Chars(copy_text(alloc, text)?);
@@ -84,16 +86,17 @@ fn append_text(
 #[cycle(append)]
 fn append_element(
     alloc: Global,
-    slots: &mut Seq<Option<Slot>>,
+    slots: &mut Vec<Option<Slot>>,
     name: &Text,
     attributes: &[(Text, Text)],
     kids: &[Tree],
     parent: Option<NodeId>,
-    place: u32,
+    place: usize,
 ) -> Result<NodeId, NoMemory>
-    requires room { length slots.old + size (elem name.now attributes.now (trees_of (map shape kids.now))) ≤ max_nodes }
-    ensures number { IfOk result (λ id. id ≡ length slots.old) }
-    ensures copied { OnOk result (slots.new ≡ slots.old ++ rows parent place (numbered (length slots.old) (elem name.now attributes.now (trees_of (map shape kids.now))))) }
+    requires room { length slots.old.items + size (elem name.now attributes.now (trees_of (map shape kids.now))) ≤ max_ids }
+    ensures number { IfOk result (λ id. id ≡ length slots.old.items) }
+    ensures copied { OnOk result (slots.new.items ≡ slots.old.items ++ rows parent place (numbered (length slots.old.items) (elem name.now attributes.now (trees_of (map shape kids.now))))) }
+    ensures longer { OnErr result (IsLonger slots.old.items slots.new.items) }
 {
     let id = slots.len() as NodeId;
     slots.push(None)?;
@@ -101,14 +104,11 @@ fn append_element(
     let name = copy_text(alloc, name)?;
     let attributes = copy_attributes(alloc, attributes)?;
     let content = Content::Element(name, attributes, kids);
-    slots.set(
-        id as usize,
-        Some(Slot {
-            parent,
-            place,
-            content,
-        }),
-    );
+    slots[id as usize] = Some(Slot {
+        parent,
+        place,
+        content,
+    });
     Ok(id)
 }
 
@@ -116,17 +116,18 @@ fn append_element(
 #[cycle(append)]
 fn append_all(
     alloc: Global,
-    slots: &mut Seq<Option<Slot>>,
+    slots: &mut Vec<Option<Slot>>,
     kids: &[Tree],
     parent: NodeId,
 ) -> Result<Seq<NodeId>, NoMemory>
-    requires room { length slots.old + sizes (trees_of (map shape kids.now)) ≤ max_nodes }
-    ensures numbers { IfOk result (λ numbers. numbers ≡ ids_of (all_numbered (length slots.old) (trees_of (map shape kids.now)))) }
-    ensures copied { OnOk result (slots.new ≡ slots.old ++ all_rows parent 0 (all_numbered (length slots.old) (trees_of (map shape kids.now)))) }
+    requires room { length slots.old.items + sizes (trees_of (map shape kids.now)) ≤ max_ids }
+    ensures numbers { IfOk result (λ numbers. numbers ≡ ids_of (all_numbered (length slots.old.items) (trees_of (map shape kids.now)))) }
+    ensures copied { OnOk result (slots.new.items ≡ slots.old.items ++ all_rows parent 0 (all_numbered (length slots.old.items) (trees_of (map shape kids.now)))) }
+    ensures longer { OnErr result (IsLonger slots.old.items slots.new.items) }
 {
     let mut numbers = Seq::new(alloc);
     for i in 0..kids.len() {
-        let number = append(alloc, slots, &kids[i], Some(parent), i as u32)?;
+        let number = append(alloc, slots, &kids[i], Some(parent), i)?;
         numbers.push(number)?;
     }
     Ok(numbers)

@@ -1,7 +1,9 @@
 ghost use Rattle.std.specs.Prelude.{◌≡◌, ◌≤◌, ◌<◌, ℕ, ◌↔◌, IsTrue, true, is_some, IsSome, IfOk, IsOkUnless, option_map, encode_utf8_all};
 ghost use Rattle.page_model.specs.Document.{Node, document, id_of, kids_of, name_of, find, parent_of, first_child_of, name_at, next_of, prev_of, AreDistinct, IsAmong, ids, height, node_count};
 ghost use Rattle.page_model.specs.Trees.{is_elem, size, depth};
-ghost use Rattle.page_model.specs.Limits.{max_nodes, max_depth};
+ghost use Rattle.page_model.specs.Limits.{max_nodes, max_depth, max_ids};
+ghost use Rattle.page_model.specs.Edits.{load_refusals};
+ghost use Rattle.dom_arena.specs.Faults.{AnswersBy};
 ghost use Rattle.dom_arena.specs.Children.{child_ids, AreFound};
 ghost use Rattle.dom_arena.specs.Shape.{shape};
 
@@ -9,8 +11,8 @@ use super::children::Children;
 use super::fault::DocFault;
 use super::slot::Slot;
 use super::tree::Tree;
-use super::{copies, table};
-use port_core::{NodeId, Seq};
+use super::{copies, limits, table};
+use port_core::NodeId;
 use std::alloc::Global;
 use std::marker::Model;
 
@@ -19,10 +21,12 @@ const ROOT: NodeId = 0;
 
 /// A document: a tree of elements and texts, each with a number of its own.
 ///
-/// The nodes stand in a vector, each at the index that is its number. A number is not used again: where its node has left the document, the vector keeps a `None`.
+/// The nodes stand in a vector, each at the index that is its number. A number is not used again: where its node has left the document, the vector keeps a `None`. How many nodes are live is counted along.
 #[derive(Debug, Drop)]
 pub struct Doc {
-    slots: Seq<Option<Slot>>,
+    alloc: Global,
+    slots: Vec<Option<Slot>>,
+    live: u32,
 }
 
 impl Model for Doc {
@@ -34,27 +38,29 @@ impl Model for Doc {
 
     ghost coded = { coded_document };
 
+    ghost use Rattle.std.specs.Prelude.{◌≡◌};
+    ghost use Rattle.page_model.specs.Document.{node_count};
     ghost use Rattle.dom_arena.specs.Table.{tree_in, IsTable};
 
-    ghost view = { λ d. record { root = tree_in d.slots; next_id = length d.slots } };
+    ghost view = { λ d. record { root = tree_in d.slots.items; next_id = length d.slots.items } };
 
-    ghost invariant = { λ d. IsTable d.slots (tree_in d.slots) };
+    ghost invariant = { λ d. IsTable d.slots.items (tree_in d.slots.items) × (d.live ≡ node_count (tree_in d.slots.items)) };
 }
 
 impl Doc {
     /// The document of a tree, whose nodes get the numbers from 0 on in document order.
     ///
-    /// Its time is linear in the number of nodes, and its recursion as deep as the tree.
+    /// Refused with `DepthLimit` where a node stands deeper than 96, and with `NodeLimit` where there are more than 20,000 nodes. Its time is linear in the number of nodes, and its recursion as deep as the tree; a tree that is refused is read as far as the limits.
     pub fn new(alloc: Global, tree: &Tree) -> Result<Doc, DocFault>
         requires element { is_elem (shape tree.now) ≡ true }
-        requires nodes { size (shape tree.now) ≤ max_nodes }
-        requires levels { depth (shape tree.now) ≤ max_depth }
         ensures document { IfOk result (λ doc. doc ≡ document (shape tree.now)) }
-        ensures fault { IsOkUnless result DocFault.NoMemory }
+        ensures causes { AnswersBy (load_refusals (shape tree.now)) result }
     {
-        let mut slots = Seq::new(alloc);
+        limits::check(tree, 0, 0, 0)?;
+        let mut slots = Vec::new(alloc);
         copies::append(alloc, &mut slots, tree, None, 0)?;
-        Ok(Doc { slots })
+        let live = slots.len() as u32;
+        Ok(Doc { alloc, slots, live })
     }
 
     /// The root's number.
@@ -65,12 +71,20 @@ impl Doc {
         ensures element { IsSome (name_of self.now.root) }
         ensures distinct { AreDistinct (ids self.now.root) }
         ensures numbered { (i : ℕ) → IsAmong i (ids self.now.root) → i < self.now.next_id }
+        ensures given { self.now.next_id ≤ max_ids }
         ensures few { node_count self.now.root ≤ max_nodes }
         ensures low { height self.now.root ≤ max_depth }
     {
         // A read of the slots lets the proof see what holds of each document.
         let _ = &self.slots;
         ROOT
+    }
+
+    /// The number that the next new node gets: so many were given since the document was made.
+    pub fn next_id(&self) -> NodeId
+        ensures { result ≡ self.now.next_id }
+    {
+        self.slots.len() as NodeId
     }
 
     /// Whether the document has a node with this number.

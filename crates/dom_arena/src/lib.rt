@@ -4,7 +4,9 @@
 mod children;
 mod copies;
 mod doc;
+mod edits;
 mod fault;
+mod limits;
 mod slot;
 mod table;
 mod tree;

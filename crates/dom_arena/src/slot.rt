@@ -13,6 +13,6 @@ pub enum Content {
 #[derive(Debug, Drop)]
 pub struct Slot {
     pub parent: Option<NodeId>,
-    pub place: u32,
+    pub place: usize,
     pub content: Content,
 }

@@ -1,9 +1,12 @@
 //! Reading a table of slots: the slot with the number i stands at the index i, and `None` stands where no node has that number any more.
-ghost use Rattle.std.specs.Prelude.{◌≡◌, encode_utf8_all, option_map, ◌+◌, ◌-◌};
+ghost use Rattle.std.specs.Prelude.{◌≡◌, encode_utf8_all, option_map, suc, slice_get, ◌+◌, ◌-◌};
 ghost use Rattle.std.specs.Option.{option_copied};
 ghost use Rattle.page_model.specs.Document.{first};
-ghost use Rattle.dom_arena.specs.Table.{slot_at, kids_at, name_in, parent_in_slot, next_in, prev_in, preceding};
+ghost use Rattle.page_model.specs.Limits.{max_depth};
+ghost use Rattle.dom_arena.specs.Writes.{parents_above};
+ghost use Rattle.dom_arena.specs.Table.{slot_at, kids_of_slot, kids_at, name_in, parent_in_slot, next_in, prev_in, preceding};
 
+use super::limits::MAX_DEPTH;
 use super::slot::{Content, Slot};
 use port_core::NodeId;
 
@@ -14,17 +17,24 @@ pub fn live_slot(slots: &[Option<Slot>], id: NodeId) -> Option<&Slot>
     slots.get(id as usize)?.as_ref()
 }
 
-/// The numbers of a node's children: of a text and of a node that is not live, none.
-pub fn kids(slots: &[Option<Slot>], id: NodeId) -> &[NodeId]
-    ensures { result.now ≡ kids_at slots.now id }
+/// The numbers of the children in a slot: of a text and of a node that is not live, none.
+pub fn kids_of(slot: Option<&Slot>) -> &[NodeId]
+    ensures { result.now ≡ kids_of_slot (option_copied slot.entry) }
 {
-    match live_slot(slots, id) {
+    match slot {
         Some(slot) => match &slot.content {
             Content::Element(_, _, kids) => kids.as_slice(),
             Content::Chars(_) => &[],
         },
         None => &[],
     }
+}
+
+/// The numbers of a node's children.
+pub fn kids(slots: &[Option<Slot>], id: NodeId) -> &[NodeId]
+    ensures { result.now ≡ kids_at slots.now id }
+{
+    kids_of(live_slot(slots, id))
 }
 
 /// An element's name.
@@ -55,13 +65,23 @@ pub fn first_kid(slots: &[Option<Slot>], id: NodeId) -> Option<NodeId>
 }
 
 /// What stands right before a place of a list.
-fn before(ids: &[NodeId], place: u32) -> Option<NodeId>
+fn before(ids: &[NodeId], place: usize) -> Option<NodeId>
     ensures { result ≡ preceding None ids.now place }
 {
     if place == 0 {
         return None;
     }
-    ids.get(place as usize - 1).copied()
+    ids.get(place - 1).copied()
+}
+
+/// What stands right after a place of a list.
+fn after(ids: &[NodeId], place: usize) -> Option<NodeId>
+    ensures { result ≡ slice_get ids.now (suc place) }
+{
+    if place >= ids.len() {
+        return None;
+    }
+    ids.get(place + 1).copied()
 }
 
 /// The next child of the parent.
@@ -69,9 +89,7 @@ pub fn next(slots: &[Option<Slot>], id: NodeId) -> Option<NodeId>
     ensures { result ≡ next_in slots.now (slot_at slots.now id) }
 {
     let slot = live_slot(slots, id)?;
-    kids(slots, slot.parent?)
-        .get(slot.place as usize + 1)
-        .copied()
+    after(kids(slots, slot.parent?), slot.place)
 }
 
 /// The previous child of the parent.
@@ -80,4 +98,18 @@ pub fn prev(slots: &[Option<Slot>], id: NodeId) -> Option<NodeId>
 {
     let slot = live_slot(slots, id)?;
     before(kids(slots, slot.parent?), slot.place)
+}
+
+/// The level of a node, where one without a parent stands at 1, as far as the depth of a document.
+pub fn level(slots: &[Option<Slot>], id: NodeId) -> u32
+    ensures { result ≡ suc (parents_above slots.now (max_depth - 1) id) }
+{
+    let mut at = id;
+    for above in 1..MAX_DEPTH {
+        match parent(slots, at) {
+            Some(up) => at = up,
+            None => return above,
+        }
+    }
+    MAX_DEPTH
 }

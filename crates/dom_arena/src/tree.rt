@@ -1,3 +1,7 @@
+ghost use Rattle.std.specs.Prelude.{◌≡◌, ◌-◌, ◌^◌, min, map};
+ghost use Rattle.page_model.specs.Trees.{size, sizes, trees_of};
+ghost use Rattle.dom_arena.specs.Shape.{shape};
+
 use port_core::{Seq, Text};
 
 /// An attribute's name and value.
@@ -13,4 +17,34 @@ pub enum Tree {
     Elem(Text, Seq<(Text, Text)>, Seq<Tree>),
     /// A text.
     Chars(Text),
+}
+
+impl Tree {
+    /// How many nodes the tree has, texts included; 2^32 - 1 where it has more than that.
+    pub fn node_count(&self) -> u32
+        ensures { result ≡ min (size (shape self.now)) (2 ^ 32 - 1) }
+    {
+        count(self)
+    }
+}
+
+#[cycle(count)]
+fn count(tree: &Tree) -> u32
+    ensures { result ≡ min (size (shape tree.now)) (2 ^ 32 - 1) }
+{
+    match tree {
+        Tree::Elem(_, _, kids) => count_all(kids.as_slice()).saturating_add(1),
+        Tree::Chars(_) => 1,
+    }
+}
+
+#[cycle(count)]
+fn count_all(kids: &[Tree]) -> u32
+    ensures { result ≡ min (sizes (trees_of (map shape kids.now))) (2 ^ 32 - 1) }
+{
+    let mut nodes: u32 = 0;
+    for kid in kids {
+        nodes = nodes.saturating_add(count(kid));
+    }
+    nodes
 }

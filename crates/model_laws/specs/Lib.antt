@@ -1,2 +1,5 @@
 pub mod Cuts
 pub mod Counting
+pub mod Numbering
+pub mod Children
+pub mod Bounds

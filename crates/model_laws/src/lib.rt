@@ -3,10 +3,16 @@
 
 mod boxes;
 mod documents;
+mod edits;
 mod lines;
 mod replies;
 
 pub use boxes::{one_assignment, some_assignment};
 pub use documents::numbers_count_up;
+pub use edits::{
+    a_level_counts_from_the_root, a_number_is_given_once, a_remove_takes_out_a_subtree,
+    a_remove_undoes_an_insert, an_insert_changes_one_child_list,
+    the_limits_are_those_of_the_document_after,
+};
 pub use lines::{lines_are_cut_at_newlines, one_way_to_cut};
 pub use replies::{one_text, some_text};

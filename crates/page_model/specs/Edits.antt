@@ -1,5 +1,5 @@
 -- The document after an edit, and why an edit is refused.
-use Rattle.std.specs.Prelude.{ℕ, zero, suc, ◌+◌, ◌==◌, ◌++◌, length, [], ◌∷◌, nat_lt, if◌then◌else◌, Option, Some, None, is_none, option_map, unwrap_or}
+use Rattle.std.specs.Prelude.{ℕ, zero, suc, ◌+◌, ◌==◌, length, [], ◌∷◌, nat_lt, if◌then◌else◌, Option, Some, None, is_none, option_map, unwrap_or}
 use Rattle.page_model.specs.Trees.{Tree, size, depth}
 use Rattle.page_model.specs.Document.{Node, element, text, Nodes, no_nodes, node, Document, numbered, id_of, ids_of, kids_of, find, name_at, or_else, node_count}
 use Rattle.page_model.specs.Limits.{max_nodes, max_depth, max_ids}

@@ -1,16 +1,17 @@
 use Rattle.std.proofs.Common.{◌≡◌, ◌+◌, ◌≤◌, ◌++◌, length, map, drop}
 use Rattle.page_model.specs.Trees.{sizes, trees_of}
 use Rattle.page_model.specs.Document.{all_numbered, ids_of}
-use Rattle.page_model.specs.Limits.{max_nodes}
+use Rattle.page_model.specs.Limits.{max_ids}
 use Rattle.dom_arena.specs.Shape.{shape}
-use Rattle.dom_arena.specs.Rows.{all_rows}
+use Rattle.dom_arena.specs.Rows.{all_rows, IsLonger}
 use Rattle.dom_arena.proofs.copies.+append.Given as goal
 
 -- what is copied and what the rest will make is what all will make
 abbrev pub invariant-append_all-loop-i : goal.invariant-append_all-loop-i
 invariant-append_all-loop-i l = record {
-  many : l.i ≤ length l.slots;
-  room : length l.slots + sizes (trees_of (map shape (drop l.i l.kids))) ≤ max_nodes;
-  numbers : l.numbers ++ ids_of (all_numbered (length l.slots) (trees_of (map shape (drop l.i l.kids)))) ≡ ids_of (all_numbered (length l.fn.slots) (trees_of (map shape l.kids)));
-  copied : l.slots ++ all_rows l.parent l.i (all_numbered (length l.slots) (trees_of (map shape (drop l.i l.kids)))) ≡ l.fn.slots ++ all_rows l.parent 0 (all_numbered (length l.fn.slots) (trees_of (map shape l.kids)));
+  many : l.i ≤ length l.slots.items;
+  room : length l.slots.items + sizes (trees_of (map shape (drop l.i l.kids))) ≤ max_ids;
+  numbers : l.numbers ++ ids_of (all_numbered (length l.slots.items) (trees_of (map shape (drop l.i l.kids)))) ≡ ids_of (all_numbered (length l.fn.slots.items) (trees_of (map shape l.kids)));
+  copied : l.slots.items ++ all_rows l.parent l.i (all_numbered (length l.slots.items) (trees_of (map shape (drop l.i l.kids)))) ≡ l.fn.slots.items ++ all_rows l.parent 0 (all_numbered (length l.fn.slots.items) (trees_of (map shape l.kids)));
+  longer : IsLonger l.fn.slots.items l.slots.items;
 }

@@ -6,6 +6,6 @@ use Rattle.dom_arena.proofs.doc.Doc.tag.Goals as goal
 
 pub returns : goal.returns
 returns c =
-    let found : name_in (slot_at c.self.inside.slots c.args.id) ≡ name_at c.args.id c.args.self.now.root =
-    subst (λ (d : Document). name_in (slot_at c.self.inside.slots c.args.id) ≡ name_at c.args.id d.root) c.self.view_is (table-name c.self.inside.slots (tree_in c.self.inside.slots) c.args.id c.self.invariant) in
+    let found : name_in (slot_at c.self.inside.slots.items c.args.id) ≡ name_at c.args.id c.args.self.now.root =
+    subst (λ (d : Document). name_in (slot_at c.self.inside.slots.items c.args.id) ≡ name_at c.args.id d.root) c.self.view_is (table-name c.self.inside.slots.items (tree_in c.self.inside.slots.items) c.args.id c.self.invariant.0) in
     search rules

@@ -1,0 +1,11 @@
+use Rattle.std.proofs.Common.{◌≤◌, drop, map}
+use Rattle.page_model.specs.Trees.{trees_of, depths}
+use Rattle.dom_arena.specs.Shape.{shape}
+use Rattle.dom_arena.proofs.limits.+deep.Given as goal
+
+-- so far no node stood deeper: all are deep enough exactly where the rest is
+abbrev pub invariant-are_within-loop-kid : goal.invariant-are_within-loop-kid
+invariant-are_within-loop-kid l = record {
+  below : depths (trees_of (map shape (drop l.kid-index l.kids))) ≤ depths (trees_of (map shape l.kids));
+  rest : depths (trees_of (map shape (drop l.kid-index l.kids))) ≤ l.levels → depths (trees_of (map shape l.kids)) ≤ l.levels;
+}

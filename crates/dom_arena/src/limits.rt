@@ -1,0 +1,92 @@
+//! How large a document may become, and what is refused for it.
+ghost use Rattle.std.specs.Prelude.{◌≡◌, ◌↔◌, ◌+◌, ◌≤◌, ◌<◌, IsTrue, MatchOption, map, min};
+ghost use Rattle.page_model.specs.Trees.{size, sizes, depth, depths, trees_of};
+ghost use Rattle.page_model.specs.Limits.{max_nodes, max_depth, max_ids};
+ghost use Rattle.page_model.specs.Edits.{tree_refusals};
+ghost use Rattle.dom_arena.specs.Shape.{shape};
+ghost use Rattle.dom_arena.specs.Faults.{ChecksBy};
+
+use super::fault::DocFault;
+use super::tree::Tree;
+
+/// The most live nodes of a document.
+const MAX_NODES: u32 = 20_000;
+
+/// The deepest level of a document, where the root stands at 1.
+pub const MAX_DEPTH: u32 = 96;
+
+/// The most numbers that a document gives.
+const MAX_IDS: u32 = 100_000;
+
+/// Whether a new tree may stand below a node of this level, where so many nodes live and so many numbers were given. It reads no more of the tree than the limits let in.
+pub fn check(tree: &Tree, above: u32, live: u32, given: u32) -> Result<(), DocFault>
+    requires above { above ≤ max_depth }
+    requires live { live ≤ max_nodes }
+    requires given { given ≤ max_ids }
+    ensures { ChecksBy (tree_refusals above live given (shape tree.now)) result }
+{
+    if !is_within(tree, MAX_DEPTH - above) {
+        return Err(DocFault::DepthLimit);
+    }
+    if room_after(tree, MAX_NODES - live).is_none() {
+        return Err(DocFault::NodeLimit);
+    }
+    if room_after(tree, MAX_IDS - given).is_none() {
+        return Err(DocFault::IdLimit);
+    }
+    Ok(())
+}
+
+/// Whether no node of a tree stands deeper than this level, where its root stands at 1.
+#[cycle(deep)]
+fn is_within(tree: &Tree, levels: u32) -> bool
+    ensures { IsTrue result ↔ (depth (shape tree.now) ≤ levels) }
+{
+    if levels == 0 {
+        return false;
+    }
+    match tree {
+        Tree::Elem(_, _, kids) => are_within(kids.as_slice(), levels - 1),
+        Tree::Chars(_) => true,
+    }
+}
+
+#[cycle(deep)]
+fn are_within(kids: &[Tree], levels: u32) -> bool
+    ensures { IsTrue result ↔ (depths (trees_of (map shape kids.now)) ≤ levels) }
+{
+    for kid in kids {
+        if !is_within(kid, levels) {
+            return false;
+        }
+    }
+    true
+}
+
+/// How much of a room for nodes a tree leaves, or nothing where it has more nodes than that.
+#[cycle(room)]
+fn room_after(tree: &Tree, room: u32) -> Option<u32>
+    ensures { MatchOption result (room < size (shape tree.now)) (λ left. left + size (shape tree.now) ≡ room) }
+{
+    match tree {
+        Tree::Elem(_, _, kids) => match room.checked_sub(1) {
+            Some(left) => room_after_all(kids.as_slice(), left),
+            None => None,
+        },
+        Tree::Chars(_) => room.checked_sub(1),
+    }
+}
+
+#[cycle(room)]
+fn room_after_all(kids: &[Tree], room: u32) -> Option<u32>
+    ensures { MatchOption result (room < sizes (trees_of (map shape kids.now))) (λ left. left + sizes (trees_of (map shape kids.now)) ≡ room) }
+{
+    let mut left = room;
+    for kid in kids {
+        match room_after(kid, left) {
+            Some(rest) => left = rest,
+            None => return None,
+        }
+    }
+    Some(left)
+}

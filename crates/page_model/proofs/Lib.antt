@@ -1,0 +1,6 @@
+pub mod Members
+pub mod Parents
+pub mod Spliced
+pub mod Levels
+pub mod Inserted
+pub mod Removed
