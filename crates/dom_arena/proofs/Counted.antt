@@ -1,8 +1,8 @@
 -- Levels by parents are the levels in the tree.
-use Rattle.std.proofs.Common.{◌≡◌, ℕ, zero, suc, ◌+◌, ◌-◌, ◌≤◌, ◌<◌, ◌==◌, List, Bool, true, false, Option, Some, None, option_map, unwrap_or, is_some, refl, sym, ap, ◌∙◌, inl, inr, arith, eqb-true}
-use Rattle.std.proofs.lemmas.Option.{same_Some, none-some}
+use Rattle.std.proofs.Common.{◌≡◌, ℕ, zero, suc, ◌+◌, ◌-◌, ◌≤◌, ◌<◌, ◌==◌, List, true, Option, Some, None, unwrap_or, is_some, refl, sym, ap, ◌∙◌, inl, inr, arith, eqb-true}
+use Rattle.std.proofs.lemmas.Option.{none-some}
 use Rattle.std.proofs.lemmas.Bool.{false≢true}
-use Rattle.page_model.specs.Document.{Node, element, text, Nodes, no_nodes, node, id_of, find, height}
+use Rattle.page_model.specs.Document.{Node, element, text, Nodes, no_nodes, node, find, height}
 use Rattle.page_model.specs.Edits.{level, level_in}
 use Rattle.page_model.specs.Limits.{max_depth}
 use Rattle.page_model.proofs.Members.{or-found}
@@ -11,7 +11,6 @@ use Rattle.dom_arena.specs.declared.slot.Slot.{Slot}
 use Rattle.dom_arena.specs.Table.{slot_at, slot_of, parent_in_slot, Holds, HoldsAll, IsTable}
 use Rattle.dom_arena.specs.Writes.{parents_above}
 use Rattle.dom_arena.proofs.Writes.{parents_above-more, parents_above-none}
-use Rattle.dom_arena.proofs.Held.{Holds-top}
 
 -- one step up from the slot of a kid
 step-up : (slots : List (Option Slot)) (i id up place m : ℕ) (n : Node) → (i == id) ≡ true → slot_at slots id ≡ Some (slot_of (Some up) place n) → parents_above slots (1 + m) i ≡ 1 + parents_above slots m up

@@ -1,12 +1,12 @@
 -- The table after an insert is the table of the tree after it.
-use Rattle.std.proofs.Common.{◌≡◌, ◌⊎◌, ℕ, zero, suc, ◌+◌, ◌-◌, ◌≤◌, ◌<◌, ◌==◌, List, [], ◌∷◌, ◌++◌, length, drop, Bool, true, false, Option, Some, None, option_map, option_and_then, max, unwrap_or, is_some, is_none, IsSome, refl, sym, ap, ◌∙◌, subst, inl, inr, arith, length-append, length-set, append-nil}
+use Rattle.std.proofs.Common.{◌≡◌, ℕ, zero, suc, ◌+◌, ◌≤◌, ◌<◌, List, [], ◌∷◌, ◌++◌, length, drop, true, false, Option, Some, None, option_map, option_and_then, max, unwrap_or, is_some, is_none, IsSome, refl, sym, ap, ◌∙◌, subst, inl, inr, arith, length-append, length-set, append-nil}
 use Rattle.std.specs.Prelude.{nat_lt}
 use Rattle.std.proofs.lemmas.Bool.{cases_lt, false≢true, ltb-false}
 use Rattle.page_model.specs.Trees.{Tree, size, depth}
-use Rattle.page_model.specs.Document.{Document, Node, id_of, kids_of, ids_of, name_of, name_at, ids, find, height, node_count, numbered, IsAmong, AreDistinct}
-use Rattle.page_model.specs.Refusals.{Refusal, no_node, not_element, bad_index, first_of}
-use Rattle.page_model.specs.Edits.{inserted, level, child_count, after_insert, insert_refusals, tree_refusals}
-use Rattle.page_model.proofs.Members.{among-top, among-find, find-among, find-part, find-distinct, among-kids}
+use Rattle.page_model.specs.Document.{Document, Node, id_of, kids_of, ids_of, name_of, name_at, ids, find, height, node_count, numbered, IsAmong}
+use Rattle.page_model.specs.Refusals.{no_node, not_element, bad_index, first_of}
+use Rattle.page_model.specs.Edits.{inserted, level, child_count, insert_refusals, tree_refusals}
+use Rattle.page_model.proofs.Members.{among-top, among-find, find-among, find-part, find-distinct, some-is}
 use Rattle.page_model.proofs.Parents.{kid-below}
 use Rattle.page_model.proofs.Levels.{level-found}
 use Rattle.page_model.proofs.Inserted.{id_of-inserted, name_of-inserted, ids-inserted, height-inserted}
@@ -14,13 +14,14 @@ use Rattle.page_model.proofs.Spliced.{Spliced, AreApart, spliced-length, spliced
 use Rattle.dom_arena.specs.declared.slot.Slot.{Slot}
 use Rattle.dom_arena.specs.Table.{slot_at, kids_at, Holds, IsTable, tree_in}
 use Rattle.dom_arena.specs.Rows.{rows}
-use Rattle.dom_arena.specs.Writes.{with_kid, changed, attached}
+use Rattle.dom_arena.specs.Writes.{with_kid, changed, attached, enlarged}
 use Rattle.dom_arena.proofs.Checked.{Fits, fits, first-none}
 use Rattle.dom_arena.proofs.Writes.{slot_at-changed_other}
-use Rattle.dom_arena.proofs.Same.{AreSame, Holds-same}
+use Rattle.dom_arena.proofs.Same.{Holds-same}
 use Rattle.dom_arena.proofs.Placed.{placed-other, length-placed, live-changed, live-placed}
 use Rattle.dom_arena.proofs.Held.{IsHeld, find-held}
 use Rattle.dom_arena.proofs.Found.{find-id}
+use Rattle.dom_arena.proofs.Readings.{table-kids}
 use Rattle.dom_arena.proofs.Rows.{length-rows, id_of-numbered}
 use Rattle.dom_arena.proofs.Numbered.{ids-numbered, count-within, distinct-numbered, node_count-numbered, find-numbered, height-numbered}
 use Rattle.dom_arena.proofs.Loaded.{Holds-rows, live-within, tree_in-held}
@@ -45,10 +46,6 @@ some-not_none None h = absurd (false≢true (sym h))
 is_some-not_none : {X : Type 0} (o : Option X) → is_none o ≡ false → is_some o ≡ true
 is_some-not_none (Some x) h = refl
 is_some-not_none None h = absurd (false≢true (sym h))
-
-some-is : {X : Type 0} (o : Option X) → is_some o ≡ true → (x : X) × (o ≡ Some x)
-some-is (Some x) h = (x, refl)
-some-is None h = absurd (false≢true h)
 
 pub may-insert : (parent at : ℕ) (t : Tree) (d : Document) → first_of (insert_refusals parent at t d) ≡ None → MayInsert parent at t d.root d.next_id
 may-insert parent at t d h =
@@ -85,10 +82,6 @@ apart-numbered n t xs below j a b =
     absurd (omega (arith, within.0, low))
 
 -- ---- the table
-
--- what an insert makes of the slots
-abbrev pub enlarged : ℕ → ℕ → Tree → List (Option Slot) → List (Option Slot)
-enlarged parent at t slots = attached parent at (length slots) (slots ++ rows (Some parent) at (numbered (length slots) t))
 
 pub length-enlarged : (parent at : ℕ) (t : Tree) (slots : List (Option Slot)) → length (enlarged parent at t slots) ≡ length slots + size t
 length-enlarged parent at t slots =
@@ -188,3 +181,31 @@ count-enlarged slots root parent at t table may =
     spliced-length (ids (inserted parent at (numbered (length slots) t) root)) (ids (numbered (length slots) t)) (ids root)
     (ids-inserted parent at (numbered (length slots) t) root may.node table.distinct may.found may.named)
     ∙ ap (λ k. node_count root + k) (node_count-numbered (length slots) t)
+
+-- ---- what the code does
+
+pub parent-within : (slots : List (Option Slot)) (root : Node) (parent at : ℕ) (t : Tree) → IsTable slots root → MayInsert parent at t root (length slots) → parent < length slots
+parent-within slots root parent at t table may = table.numbered parent (find-among parent root (ap is_some may.found))
+
+pub index-within : (slots : List (Option Slot)) (root : Node) (parent at : ℕ) (t : Tree) → IsTable slots root → MayInsert parent at t root (length slots) → at ≤ length (kids_at slots parent)
+index-within slots root parent at t table may =
+    let kids : kids_at slots parent ≡ ids_of (kids_of may.node) = table-kids slots root parent table ∙ ap (λ o. unwrap_or (option_map (λ n. ids_of (kids_of n)) o) []) may.found in
+    subst (λ (ks : List ℕ). at ≤ length ks) (sym kids) may.within
+
+-- the fields of the document after an insert
+pub record IsEnlarged (parent at : ℕ) (t : Tree) (slots slots' : List (Option Slot)) : Type 0 where
+  pub table : IsTable slots' (tree_in slots')
+  pub count : node_count (tree_in slots') ≡ node_count (tree_in slots) + size t
+  pub tree : tree_in slots' ≡ inserted parent at (numbered (length slots) t) (tree_in slots)
+  pub long : length slots' ≡ length slots + size t
+
+pub is_enlarged : (slots slots' : List (Option Slot)) (parent at : ℕ) (t : Tree) → IsTable slots (tree_in slots) → MayInsert parent at t (tree_in slots) (length slots) → slots' ≡ enlarged parent at t slots → IsEnlarged parent at t slots slots'
+is_enlarged slots slots' parent at t table may is =
+    let root : Node = tree_in slots in
+    let tree : tree_in slots' ≡ inserted parent at (numbered (length slots) t) root = ap tree_in is ∙ tree_in-enlarged slots root parent at t table may in
+    record {
+      table = subst (λ (n : Node). IsTable slots' n) (sym tree) (subst (λ (s : List (Option Slot)). IsTable s (inserted parent at (numbered (length slots) t) root)) (sym is) (IsTable-enlarged slots root parent at t table may));
+      count = ap node_count tree ∙ count-enlarged slots root parent at t table may;
+      tree = tree;
+      long = ap length is ∙ length-enlarged parent at t slots;
+    }

@@ -1,22 +1,20 @@
 -- The table after an insert holds the tree after it.
-use Rattle.std.proofs.Common.{◌≡◌, ◌⊎◌, ℕ, zero, suc, ◌+◌, ◌≤◌, ◌<◌, ◌==◌, List, [], ◌∷◌, ◌++◌, length, take, drop, slice_set, Bool, true, false, cond, Option, Some, None, option_map, is_some, IsSome, refl, sym, ap, ◌∙◌, subst, inl, inr, arith, length-append, length-set, append-nil, eq-eqb}
-use Rattle.std.specs.List.{slice_get, insert}
-use Rattle.std.proofs.lemmas.Bool.{cases_Bool, cases_lt, eqb-true, false≢true}
+use Rattle.std.proofs.Common.{◌≡◌, ℕ, zero, suc, ◌+◌, ◌≤◌, ◌==◌, List, [], ◌∷◌, ◌++◌, length, drop, Option, Some, None, option_map, IsSome, refl, sym, ap, ◌∙◌, subst, inl, inr, arith, eq-eqb}
+use Rattle.std.specs.List.{insert}
+use Rattle.std.proofs.lemmas.Bool.{false≢true}
 use Rattle.std.proofs.lemmas.Option.{same_Some, none-some}
-use Rattle.page_model.specs.Trees.{Text, Attribute, Tree, size, depth}
-use Rattle.page_model.specs.Document.{Node, element, text, Nodes, no_nodes, node, id_of, kids_of, ids_of, name_of, ids, all_ids, find, find_in, height, node_count, numbered, IsAmong, AreDistinct}
-use Rattle.page_model.specs.Edits.{with_one, inserted, all_inserted, level}
-use Rattle.page_model.specs.Limits.{max_nodes, max_depth, max_ids}
-use Rattle.page_model.proofs.Members.{among-left, among-right, among-top, among-kids, among-find, find-among, distinct-left, distinct-right, distinct-apart, find-part, find_in-part, find-distinct, if-found, or-found}
-use Rattle.page_model.proofs.Inserted.{inserted-absent, all_inserted-absent, unfound-absent, found-absent, ids_of-inserted, ids-with_one}
-use Rattle.page_model.proofs.Spliced.{Spliced, AreApart, spliced-distinct}
+use Rattle.page_model.specs.Document.{Node, element, text, Nodes, no_nodes, node, id_of, kids_of, ids_of, name_of, ids, all_ids, find, find_in, IsAmong, AreDistinct}
+use Rattle.page_model.specs.Edits.{with_one, inserted, all_inserted}
+use Rattle.page_model.proofs.Members.{among-left, among-right, among-top, among-kids, distinct-left, distinct-right, distinct-apart, find-part, find_in-part, if-found, or-found}
+use Rattle.page_model.proofs.Inserted.{inserted-absent, all_inserted-absent, unfound-absent, found-absent, ids_of-inserted}
+use Rattle.page_model.proofs.Spliced.{AreApart, spliced-distinct}
 use Rattle.dom_arena.specs.declared.slot.Slot.{Slot}
 use Rattle.dom_arena.specs.declared.slot.Content.TheVariants.{Element}
 use Rattle.dom_arena.specs.Table.{slot_at, slot_of, kids_of_slot, kids_at, Holds, HoldsAll}
 use Rattle.dom_arena.specs.Writes.{with_kid, changed, placed, lined_up, attached}
 use Rattle.dom_arena.proofs.Writes.{slot_at-changed, slot_at-changed_other}
 use Rattle.dom_arena.proofs.Same.{AreSame, Holds-same, HoldsAll-same}
-use Rattle.dom_arena.proofs.Placed.{HoldsEach, HoldsAll-each, HoldsAll-placed, placed-other}
+use Rattle.dom_arena.proofs.Placed.{HoldsAll-each, HoldsAll-placed, placed-other}
 
 -- ---- the children of the parent
 

@@ -14,3 +14,4 @@ pub mod Counted
 pub mod Grown
 pub mod Enlarged
 pub mod Shrunk
+pub mod Reduced

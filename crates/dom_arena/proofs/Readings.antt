@@ -1,9 +1,10 @@
 -- What each reader finds in the table of a tree.
-use Rattle.std.proofs.Common.{◌≡◌, ℕ, suc, ◌+◌, ◌==◌, ◌||◌, List, [], true, false, Option, Some, None, option_map, option_and_then, unwrap_or, is_some, IfSome, refl, sym, ap, ◌∙◌, inl, inr, arith}
+use Rattle.std.proofs.Common.{length, ◌≡◌, ℕ, suc, ◌+◌, ◌==◌, ◌||◌, List, [], true, false, Option, Some, None, option_map, option_and_then, unwrap_or, is_some, IfSome, refl, sym, ap, ◌∙◌, inl, inr, arith}
 use Rattle.std.specs.List.{slice_get}
 use Rattle.std.proofs.lemmas.Bool.{false≢true, eqb-true, cases_Bool}
 use Rattle.std.proofs.lemmas.Option.{same_Some, none-some}
 use Rattle.page_model.specs.Document.{Node, element, text, id_of, kids_of, ids_of, name_of, find, parent_in, first, after, before, first_child_of, next_of, prev_of, parent_of, name_at}
+use Rattle.page_model.specs.Edits.{child_count}
 use Rattle.dom_arena.specs.declared.slot.Slot.{Slot}
 use Rattle.dom_arena.specs.Table.{slot_at, content_of, IsTable, kids_in, kids_of_slot, kids_at, name_of_content, name_in, parent_in_slot, next_in, prev_in, preceding}
 use Rattle.dom_arena.proofs.Held.{Holds-find, Holds-top, Holds-parent, IsChild, find-parent}
@@ -43,6 +44,13 @@ kids-cases None (Some s) e = absurd (none-some _ (sym e))
 pub table-kids : (slots : List (Option Slot)) (root : Node) (i : ℕ) → IsTable slots root → kids_at slots i ≡ unwrap_or (option_map (λ n. ids_of (kids_of n)) (find i root)) []
 table-kids slots root i t = kids-cases (find i root) (slot_at slots i) (table-content slots root i t)
 
+count-found : (o : Option Node) → length (unwrap_or (option_map (λ n. ids_of (kids_of n)) o) []) ≡ unwrap_or (option_map (λ n. length (ids_of (kids_of n))) o) 0
+count-found None = refl
+count-found (Some n) = refl
+
+pub table-child_count : (slots : List (Option Slot)) (root : Node) (i : ℕ) → IsTable slots root → length (kids_at slots i) ≡ child_count i root
+table-child_count slots root i t = ap length (table-kids slots root i t) ∙ count-found (find i root)
+
 first-found : (o : Option Node) → first (unwrap_or (option_map (λ n. ids_of (kids_of n)) o) []) ≡ option_and_then (λ n. first (ids_of (kids_of n))) o
 first-found None = refl
 first-found (Some n) = refl
@@ -70,7 +78,7 @@ absent None e = refl
 absent (Some s) e = absurd (false≢true (sym e))
 
 -- a node without a parent is the root, or not live
-parentless : (slots : List (Option Slot)) (root : Node) (i : ℕ) → IsTable slots root → is_some (parent_in i root) ≡ false → parent_in_slot (slot_at slots i) ≡ None
+pub parentless : (slots : List (Option Slot)) (root : Node) (i : ℕ) → IsTable slots root → is_some (parent_in i root) ≡ false → parent_in_slot (slot_at slots i) ≡ None
 parentless slots root i t e = elim (cases_Bool (i == id_of root)) [
   | inl b ↦ ap parent_in_slot (ap (slot_at slots) (eqb-true i (id_of root) b) ∙ Holds-top slots None 0 root t.held)
   | inr f ↦

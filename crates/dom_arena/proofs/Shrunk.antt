@@ -1,9 +1,8 @@
 -- The table after a remove holds the tree after it.
-use Rattle.std.proofs.Common.{◌≡◌, ◌⊎◌, ℕ, zero, suc, ◌+◌, ◌≤◌, ◌<◌, ◌==◌, ◌||◌, List, [], ◌∷◌, ◌++◌, length, drop, Bool, true, false, cond, Option, Some, None, option_map, is_some, refl, sym, ap, ◌∙◌, subst, inl, inr, arith, eq-eqb}
+use Rattle.std.proofs.Common.{◌≡◌, ℕ, zero, suc, ◌+◌, ◌==◌, ◌||◌, List, [], ◌∷◌, ◌++◌, drop, Bool, true, false, cond, Option, Some, option_map, refl, sym, ap, ◌∙◌, subst, inl, inr, arith, eq-eqb}
 use Rattle.std.specs.List.{slice_get, remove}
 use Rattle.std.proofs.lemmas.Bool.{cases_Bool, eqb-true, false≢true}
 use Rattle.std.proofs.lemmas.Option.{same_Some, none-some}
-use Rattle.page_model.specs.Trees.{Text, Attribute}
 use Rattle.page_model.specs.Document.{Node, element, text, Nodes, no_nodes, node, id_of, kids_of, ids_of, ids, all_ids, parent_in, parent_below, is_among, IsAmong, AreDistinct}
 use Rattle.page_model.specs.Edits.{removed, all_removed}
 use Rattle.page_model.proofs.Members.{among-left, among-right, among-top, among-kids, distinct-left, distinct-right, distinct-apart, if-found, or-found}
@@ -12,7 +11,7 @@ use Rattle.page_model.proofs.Removed.{id_of-removed, removed-absent, all_removed
 use Rattle.dom_arena.specs.declared.slot.Slot.{Slot}
 use Rattle.dom_arena.specs.declared.slot.Content.TheVariants.{Element}
 use Rattle.dom_arena.specs.Table.{slot_at, slot_of, kids_of_slot, kids_at, Holds, HoldsAll}
-use Rattle.dom_arena.specs.Writes.{without_kid, changed, placed, lined_up, detached}
+use Rattle.dom_arena.specs.Writes.{without_kid, changed, placed, detached}
 use Rattle.dom_arena.proofs.Writes.{slot_at-changed, slot_at-changed_other}
 use Rattle.dom_arena.proofs.Same.{AreSame, Holds-same, HoldsAll-same}
 use Rattle.dom_arena.proofs.Placed.{HoldsAll-each, HoldsEach-same, HoldsAll-placed, placed-other}

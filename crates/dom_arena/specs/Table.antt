@@ -1,5 +1,5 @@
 -- How a table of slots is read as a tree.
-use Rattle.std.specs.Prelude.{◌≡◌, ◌<◌, ◌≤◌, ℕ, zero, suc, length, List, [], map, true, Option, Some, None, option_and_then, is_some, IsSome, slice_get}
+use Rattle.std.specs.Prelude.{◌≡◌, ◌<◌, ◌≤◌, ℕ, zero, suc, length, List, [], map, true, Option, Some, None, option_and_then, option_map, is_some, IsSome, slice_get}
 use Rattle.std.specs.Option.{option_flatten}
 use Rattle.page_model.specs.Trees.{Text}
 use Rattle.page_model.specs.Document.{Node, element, text, Nodes, no_nodes, node, nodes_of, ids_of, id_of, ids, name_of, find, height, node_count, AreDistinct, IsAmong}
@@ -40,6 +40,10 @@ name_in o = option_and_then (λ (s : Slot). name_of_content s.content) o
 -- the parent that a slot names
 abbrev pub parent_in_slot : Option Slot → Option ℕ
 parent_in_slot o = option_and_then (λ (s : Slot). s.parent) o
+
+-- the parent and the place that a slot names
+abbrev pub spot_in : Option Slot → Option (ℕ × ℕ)
+spot_in o = option_and_then (λ (s : Slot). option_map (λ up. (up, s.place)) s.parent) o
 
 -- what stands before a place of a list, where last stands before the list
 abbrev pub preceding : Option ℕ → List ℕ → ℕ → Option ℕ

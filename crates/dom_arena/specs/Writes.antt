@@ -1,6 +1,9 @@
 -- What edits write into a table of slots.
-use Rattle.std.specs.Prelude.{◌≡◌, ◌-◌, length, ℕ, zero, suc, List, [], ◌∷◌, Option, None, option_map, unwrap_or, drop, slice_set}
+use Rattle.std.specs.Prelude.{◌≡◌, ◌-◌, length, ℕ, zero, suc, List, [], ◌∷◌, ◌++◌, Option, Some, None, option_map, unwrap_or, drop, slice_set}
 use Rattle.std.specs.List.{insert, remove}
+use Rattle.page_model.specs.Trees.{Tree}
+use Rattle.page_model.specs.Document.{numbered}
+use Rattle.dom_arena.specs.Rows.{rows}
 use Rattle.dom_arena.specs.declared.slot.Slot.{Slot}
 use Rattle.dom_arena.specs.declared.slot.Content.{Content}
 use Rattle.dom_arena.specs.declared.slot.Content.TheVariants.{Element, Chars}
@@ -39,6 +42,10 @@ lined_up parent from slots = placed from (drop from (kids_at slots parent)) slot
 -- the slots where this parent has one more child, with so many before it
 abbrev pub attached : ℕ → ℕ → ℕ → List (Option Slot) → List (Option Slot)
 attached parent at id slots = lined_up parent at (changed (with_kid at id) parent slots)
+
+-- the slots with those of a new tree behind them, which is a child of this parent with so many before it
+abbrev pub enlarged : ℕ → ℕ → Tree → List (Option Slot) → List (Option Slot)
+enlarged parent at t slots = attached parent at (length slots) (slots ++ rows (Some parent) at (numbered (length slots) t))
 
 -- the slots where this parent has one child fewer, the one with so many before it
 abbrev pub detached : ℕ → ℕ → List (Option Slot) → List (Option Slot)

@@ -1,9 +1,9 @@
-ghost use Rattle.std.specs.Prelude.{◌≡◌, ◌≤◌, ◌<◌, ℕ, ◌↔◌, IsTrue, true, is_some, IsSome, IfOk, IsOkUnless, option_map, encode_utf8_all};
+ghost use Rattle.std.specs.Prelude.{◌≡◌, ◌≤◌, ◌<◌, ℕ, ◌↔◌, IsTrue, true, is_some, IsSome, IfOk, IfErr, OnOk, OnErr, ◌≢◌, unwrap_or, option_map, encode_utf8_all};
 ghost use Rattle.page_model.specs.Document.{Node, document, id_of, kids_of, name_of, find, parent_of, first_child_of, name_at, next_of, prev_of, AreDistinct, IsAmong, ids, height, node_count};
 ghost use Rattle.page_model.specs.Trees.{is_elem, size, depth};
 ghost use Rattle.page_model.specs.Limits.{max_nodes, max_depth, max_ids};
-ghost use Rattle.page_model.specs.Edits.{load_refusals};
-ghost use Rattle.dom_arena.specs.Faults.{AnswersBy};
+ghost use Rattle.page_model.specs.Edits.{load_refusals, after_insert, insert_refusals, after_remove, remove_refusals, child_count, level};
+ghost use Rattle.dom_arena.specs.Faults.{AnswersBy, ChecksBy};
 ghost use Rattle.dom_arena.specs.Children.{child_ids, AreFound};
 ghost use Rattle.dom_arena.specs.Shape.{shape};
 
@@ -11,7 +11,8 @@ use super::children::Children;
 use super::fault::DocFault;
 use super::slot::Slot;
 use super::tree::Tree;
-use super::{copies, limits, table};
+use super::limits::MAX_DEPTH;
+use super::{copies, edits, limits, table};
 use port_core::NodeId;
 use std::alloc::Global;
 use std::marker::Model;
@@ -135,6 +136,80 @@ impl Doc {
         ensures { result ≡ prev_of id self.now.root }
     {
         table::prev(self.slots.as_slice(), id)
+    }
+
+    /// Puts a new tree among the children of an element, with so many of them before it, and answers its number. The new nodes get the next numbers, in document order.
+    ///
+    /// Refused with `NoNode`, `NotElement`, `BadIndex` where the element has fewer children than that, `DepthLimit`, `NodeLimit` or `IdLimit`, by the first that holds; then, and where memory runs out, nothing is changed. Its time is linear in the number of the parent's children and of new nodes.
+    pub fn insert(
+        &mut self,
+        parent: NodeId,
+        index: usize,
+        tree: &Tree,
+    ) -> Result<NodeId, DocFault>
+        ensures inserted { OnOk result (self.new ≡ after_insert parent index (shape tree.now) self.old) }
+        ensures number { IfOk result (λ id. id ≡ self.old.next_id) }
+        ensures causes { AnswersBy (insert_refusals parent index (shape tree.now) self.old) result }
+        ensures kept { OnErr result (self.new ≡ self.old) }
+    {
+        self.may_insert(parent, index, tree)?;
+        let given = self.slots.len();
+        let id = edits::insert(self.alloc, &mut self.slots, tree, parent, index)?;
+        self.live += (self.slots.len() - given) as u32;
+        Ok(id)
+    }
+
+    /// Why an insert is refused, if it is.
+    fn may_insert(&self, parent: NodeId, index: usize, tree: &Tree) -> Result<(), DocFault>
+        ensures { ChecksBy (insert_refusals parent index (shape tree.now) self.now) result }
+    {
+        if !self.is_live(parent) {
+            return Err(DocFault::NoNode);
+        }
+        if self.tag(parent).is_none() {
+            return Err(DocFault::NotElement);
+        }
+        if index > self.child_count(parent) {
+            return Err(DocFault::BadIndex);
+        }
+        limits::check(tree, self.level(parent), self.live, self.next_id())
+    }
+
+    /// How many children a node has.
+    fn child_count(&self, id: NodeId) -> usize
+        ensures { result ≡ child_count id self.now.root }
+    {
+        table::kids(self.slots.as_slice(), id).len()
+    }
+
+    /// The level of a node, where the root stands at 1.
+    fn level(&self, id: NodeId) -> u32
+        requires live { is_some (find id self.now.root) ≡ true }
+        ensures value { result ≡ unwrap_or (level id self.now.root) 0 }
+        ensures low { result ≤ max_depth }
+    {
+        table::level(self.slots.as_slice(), id)
+    }
+
+    /// Takes a node out, with all below it. It takes no memory.
+    ///
+    /// Refused with `NoNode`, and with `IsRoot` for the root; then nothing is changed. Its time is linear in the number of the parent's children and of the nodes that go.
+    pub fn remove(&mut self, id: NodeId) -> Result<(), DocFault>
+        ensures removed { OnOk result (self.new ≡ after_remove id self.old) }
+        ensures causes { AnswersBy (remove_refusals id self.old) result }
+        ensures without_memory { IfErr result (λ e. e ≢ DocFault.NoMemory) }
+        ensures kept { OnErr result (self.new ≡ self.old) }
+    {
+        if !self.is_live(id) {
+            return Err(DocFault::NoNode);
+        }
+        let Some((parent, place)) = table::spot(self.slots.as_slice(), id) else {
+            return Err(DocFault::IsRoot);
+        };
+        let slots = self.slots.as_mut_slice();
+        edits::clear(slots, &mut self.live, id, MAX_DEPTH);
+        edits::detach(slots, parent, place);
+        Ok(())
     }
 }
 

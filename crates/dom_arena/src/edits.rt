@@ -1,13 +1,19 @@
 //! Writing a table of slots: a child more or fewer in a list, the places of children, and slots that are no longer live.
-ghost use Rattle.std.specs.Prelude.{◌≡◌, ◌≤◌, ◌<◌, ◌-◌, length, drop, suc, None, Some, option_map, OnOk, OnErr, slice_set, Option, ℕ};
+ghost use Rattle.std.specs.Prelude.{◌≡◌, ◌≤◌, ◌<◌, ◌-◌, length, drop, suc, None, Some, option_map, OnOk, OnErr, IfOk, ◌+◌, slice_set, Option, ℕ};
 ghost use Rattle.std.specs.List.{insert, remove};
 ghost use Rattle.page_model.specs.Document.{Node, Nodes, id_of, ids_of, ids, all_ids, height, heights, AreDistinct};
+ghost use Rattle.page_model.specs.Trees.{size};
+ghost use Rattle.page_model.specs.Limits.{max_ids};
+ghost use Rattle.dom_arena.specs.Shape.{shape};
+ghost use Rattle.dom_arena.specs.Rows.{IsLonger};
 ghost use Rattle.dom_arena.specs.Table.{slot_at, kids_of_slot, kids_at, Holds, HoldsAll};
-ghost use Rattle.dom_arena.specs.Writes.{with_kid, without_kid, with_place, changed, placed, lined_up, attached, detached, Clears};
+ghost use Rattle.dom_arena.specs.Writes.{with_kid, without_kid, with_place, changed, placed, lined_up, attached, enlarged, detached, Clears};
 
 use super::slot::{Content, Slot};
-use super::table;
+use super::tree::Tree;
+use super::{copies, table};
 use port_core::{NoMemory, NodeId, Seq};
+use std::alloc::Global;
 
 /// Puts a number into a list, with so many before it.
 fn put(ids: &mut Seq<NodeId>, at: usize, id: NodeId) -> Result<(), NoMemory>
@@ -99,6 +105,49 @@ pub fn attach(
     put_kid(&mut slots[parent as usize], at, id)?;
     line_up(slots, parent, at);
     Ok(())
+}
+
+/// Copies a tree behind the slots as a child of this parent, with so many children before it, and answers its number. Where memory runs out, the slots are as before.
+pub fn insert(
+    alloc: Global,
+    slots: &mut Vec<Option<Slot>>,
+    tree: &Tree,
+    parent: NodeId,
+    at: usize,
+) -> Result<NodeId, NoMemory>
+    requires room { length slots.old.items + size (shape tree.now) ≤ max_ids }
+    requires parent { parent < length slots.old.items }
+    requires within { at ≤ length (kids_at slots.old.items parent) }
+    ensures number { IfOk result (λ id. id ≡ length slots.old.items) }
+    ensures inserted { OnOk result (slots.new.items ≡ enlarged parent at (shape tree.now) slots.old.items) }
+    ensures kept { OnErr result (slots.new.items ≡ slots.old.items) }
+{
+    let given = slots.len();
+    let done = append_and_attach(alloc, slots, tree, parent, at);
+    if done.is_err() {
+        slots.truncate(given);
+    }
+    done
+}
+
+/// The same, but where memory runs out there may be more slots.
+fn append_and_attach(
+    alloc: Global,
+    slots: &mut Vec<Option<Slot>>,
+    tree: &Tree,
+    parent: NodeId,
+    at: usize,
+) -> Result<NodeId, NoMemory>
+    requires room { length slots.old.items + size (shape tree.now) ≤ max_ids }
+    requires parent { parent < length slots.old.items }
+    requires within { at ≤ length (kids_at slots.old.items parent) }
+    ensures number { IfOk result (λ id. id ≡ length slots.old.items) }
+    ensures inserted { OnOk result (slots.new.items ≡ enlarged parent at (shape tree.now) slots.old.items) }
+    ensures longer { OnErr result (IsLonger slots.old.items slots.new.items) }
+{
+    let id = copies::append(alloc, slots, tree, Some(parent), at)?;
+    attach(slots.as_mut_slice(), parent, at, id)?;
+    Ok(id)
 }
 
 /// Takes the child with so many children before it from this parent.

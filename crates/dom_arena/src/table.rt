@@ -4,7 +4,7 @@ ghost use Rattle.std.specs.Option.{option_copied};
 ghost use Rattle.page_model.specs.Document.{first};
 ghost use Rattle.page_model.specs.Limits.{max_depth};
 ghost use Rattle.dom_arena.specs.Writes.{parents_above};
-ghost use Rattle.dom_arena.specs.Table.{slot_at, kids_of_slot, kids_at, name_in, parent_in_slot, next_in, prev_in, preceding};
+ghost use Rattle.dom_arena.specs.Table.{slot_at, kids_of_slot, kids_at, name_in, parent_in_slot, spot_in, next_in, prev_in, preceding};
 
 use super::limits::MAX_DEPTH;
 use super::slot::{Content, Slot};
@@ -55,6 +55,14 @@ pub fn parent(slots: &[Option<Slot>], id: NodeId) -> Option<NodeId>
     ensures { result ≡ parent_in_slot (slot_at slots.now id) }
 {
     live_slot(slots, id)?.parent
+}
+
+/// The parent that a node's slot names, and the node's place among the parent's children.
+pub fn spot(slots: &[Option<Slot>], id: NodeId) -> Option<(NodeId, usize)>
+    ensures { result ≡ spot_in (slot_at slots.now id) }
+{
+    let slot = live_slot(slots, id)?;
+    Some((slot.parent?, slot.place))
 }
 
 /// The first child.

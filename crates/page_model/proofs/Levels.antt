@@ -1,10 +1,10 @@
 -- The level of a node: it has one where it is found, and none is below the height.
-use Rattle.std.proofs.Common.{◌≡◌, ◌⊎◌, ℕ, suc, ◌≤◌, ◌==◌, Bool, true, false, cond, Option, Some, None, option_map, is_some, refl, sym, ◌∙◌, inl, inr, arith}
+use Rattle.std.proofs.Common.{ap, ◌≡◌, ◌⊎◌, ℕ, suc, ◌≤◌, ◌==◌, Bool, true, false, cond, Option, Some, None, option_map, is_some, refl, sym, ◌∙◌, inl, inr, arith}
 use Rattle.std.proofs.lemmas.Bool.{cases_Bool, false≢true}
 use Rattle.std.proofs.lemmas.Option.{same_Some, none-some}
 use Rattle.page_model.specs.Document.{Node, element, text, Nodes, no_nodes, node, find, find_in, or_else, height, heights}
 use Rattle.page_model.specs.Edits.{level, level_in}
-use Rattle.page_model.proofs.Members.{or-found}
+use Rattle.page_model.proofs.Members.{if-found, or-found}
 
 is_some-suc : (o : Option ℕ) → is_some (option_map (λ l. suc l) o) ≡ is_some o
 is_some-suc None = refl
@@ -59,4 +59,24 @@ mutual
   level_in-height i l (node n ns) h = elim (or-found (level i n) (level_in i ns) l h) [
     | inl k ↦ let here : l ≤ height n = level-height i l n k in omega (arith, here)
     | inr k ↦ let there : l ≤ heights ns = level_in-height i l ns k.1 in omega (arith, there)
+  ]
+
+-- ---- what is found is no higher
+
+mutual
+  pub find-height : (i : ℕ) (n p : Node) → find i n ≡ Some p → height p ≤ height n
+  find-height i (element id name attributes kids) p h = elim (if-found (i == id) (element id name attributes kids) p (find_in i kids) h) [
+    | inl k ↦ let same : suc (heights kids) ≡ height p = ap height (same_Some (element id name attributes kids) p k.1) in omega (arith, same)
+    | inr k ↦ let below : height p ≤ heights kids = find_in-height i kids p k.1 in omega (arith, below)
+  ]
+  find-height i (text id cs) p h = elim (if-found (i == id) (text id cs) p None h) [
+    | inl k ↦ let same : 1 ≡ height p = ap height (same_Some (text id cs) p k.1) in omega (arith, same)
+    | inr k ↦ absurd (none-some p k.1)
+  ]
+
+  pub find_in-height : (i : ℕ) (ns : Nodes) (p : Node) → find_in i ns ≡ Some p → height p ≤ heights ns
+  find_in-height i no_nodes p h = absurd (none-some p h)
+  find_in-height i (node n ns) p h = elim (or-found (find i n) (find_in i ns) p h) [
+    | inl k ↦ let here : height p ≤ height n = find-height i n p k in omega (arith, here)
+    | inr k ↦ let there : height p ≤ heights ns = find_in-height i ns p k.1 in omega (arith, there)
   ]

@@ -68,6 +68,10 @@ among-kids x no_nodes h = absurd h
 among-kids x (node n ns) (inl e) = among-left x (ids n) (all_ids ns) (subst (λ (k : ℕ). IsAmong k (ids n)) (sym e) (among-top n))
 among-kids x (node n ns) (inr h) = among-right x (ids n) (all_ids ns) (among-kids x ns h)
 
+pub some-is : {X : Type 0} (o : Option X) → is_some o ≡ true → (x : X) × (o ≡ Some x)
+some-is (Some x) h = (x, refl)
+some-is None h = absurd (false≢true h)
+
 pub some-or : {X : Type 0} (o p : Option X) → is_some (or_else o p) ≡ true → (is_some o ≡ true) ⊎ (is_some p ≡ true)
 some-or (Some x) p h = inl refl
 some-or None p h = inr h
