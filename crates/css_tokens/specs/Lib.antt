@@ -1,2 +1,4 @@
+pub mod Tests
 pub mod Views
+pub mod Written
 pub mod Nesting

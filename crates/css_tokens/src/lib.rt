@@ -1,9 +1,14 @@
 //! What is read of a text of CSS: its tokens.
 #![tactic(auto)]
 
+mod classes;
 mod component;
+mod decimals;
 mod fault;
+mod magnitudes;
+mod numerals;
 mod reading;
+mod runs;
 mod token;
 
 pub use component::{Component, Components};

@@ -1,0 +1,4 @@
+pub mod RunSteps
+pub mod LimitedDecimals
+pub mod Quotients
+pub mod Points
