@@ -10,6 +10,7 @@ pub enum Class {
     HexDigit,
     White,
     Sign,
+    Hyphen,
     CloseRound,
 }
 
@@ -23,6 +24,7 @@ impl Class {
             Class::HexDigit => is_hex_digit(c),
             Class::White => is_white(c),
             Class::Sign => is_sign(c),
+            Class::Hyphen => c == '-',
             Class::CloseRound => c == ')',
         }
     }

@@ -1,11 +1,13 @@
 //! Numbers as they are written (CSS Syntax 3, sections 4.3.10, 4.3.12 and 4.3.13).
-ghost use Rattle.std.specs.Prelude.{◌≡◌, ◌<◌, ◌^◌, length, drop};
+ghost use Rattle.std.specs.Prelude.{◌≡◌, ◌<◌, ◌^◌, length, drop, min, true};
+ghost use Rattle.std.specs.List.{list_all};
+ghost use Rattle.css_model.specs.Classes.{is_digit};
 ghost use Rattle.css_model.specs.Numerals as written;
 ghost use Rattle.css_model.specs.Fronts as model;
 ghost use Rattle.css_tokens.specs.Views.{number_view};
 ghost use Rattle.css_tokens.specs.Written.{numeral_view};
 
-use super::classes::{Class, is_digit, is_e, is_sign};
+use super::classes::{self, Class, is_e, is_sign};
 use super::magnitudes::{enlarged, reduced};
 use super::runs::{begins, one, run};
 use super::token::Number;
@@ -28,7 +30,7 @@ fn begins_unsigned(cs: &[char]) -> bool
 {
     match cs {
         [] => false,
-        [c, rest @ ..] => is_digit(*c) || (*c == '.' && begins(Class::Digit, rest)),
+        [c, rest @ ..] => classes::is_digit(*c) || (*c == '.' && begins(Class::Digit, rest)),
     }
 }
 
@@ -54,7 +56,7 @@ fn begins_signed_digit(cs: &[char]) -> bool
 {
     match cs {
         [] => false,
-        [c, rest @ ..] => is_digit(*c) || (is_sign(*c) && begins(Class::Digit, rest)),
+        [c, rest @ ..] => classes::is_digit(*c) || (is_sign(*c) && begins(Class::Digit, rest)),
     }
 }
 
@@ -130,7 +132,7 @@ pub fn read_numeral<'a>(cs: &'a [char]) -> Numeral<'a>
 impl<'a> Numeral<'a> {
     /// How many characters it has.
     pub fn len(&self) -> usize
-        requires { length (written.numeral_text (numeral_view self.now)) < 2 ^ 64 }
+        requires short { length (written.numeral_text (numeral_view self.now)) < 2 ^ 64 }
         ensures { result ≡ length (written.numeral_text (numeral_view self.now)) }
     {
         let point = if self.fraction.is_empty() { 0 } else { 1 };
@@ -141,5 +143,45 @@ impl<'a> Numeral<'a> {
             + self.mark.len()
             + self.exponent_sign.len()
             + self.exponent.len()
+    }
+
+    /// Its size in millionths, limited.
+    fn size(&self) -> u128
+        requires whole { list_all is_digit (numeral_view self.now).whole ≡ true }
+        requires fraction { list_all is_digit (numeral_view self.now).fraction ≡ true }
+        ensures { result ≡ min (10 ^ 15) (written.magnitude (numeral_view self.now)) }
+    {
+        if begins(Class::Hyphen, self.exponent_sign) {
+            reduced(self.whole, self.fraction, self.exponent)
+        } else {
+            enlarged(self.whole, self.fraction, self.exponent)
+        }
+    }
+
+    /// Its value in millionths.
+    fn millionths(&self) -> Fixed6
+        requires whole { list_all is_digit (numeral_view self.now).whole ≡ true }
+        requires fraction { list_all is_digit (numeral_view self.now).fraction ≡ true }
+        ensures { result ≡ written.millionths_of (numeral_view self.now) }
+    {
+        let size = self.size() as i128;
+        if begins(Class::Hyphen, self.sign) {
+            Fixed6::new(-size)
+        } else {
+            Fixed6::new(size)
+        }
+    }
+
+    /// Its value, and how it was written.
+    pub fn number(&self) -> Number
+        requires whole { list_all is_digit (numeral_view self.now).whole ≡ true }
+        requires fraction { list_all is_digit (numeral_view self.now).fraction ≡ true }
+        ensures { number_view result ≡ written.number_of (numeral_view self.now) }
+    {
+        Number {
+            millionths: self.millionths(),
+            is_whole: self.fraction.is_empty() && self.exponent.is_empty(),
+            is_signed: !self.sign.is_empty(),
+        }
     }
 }
