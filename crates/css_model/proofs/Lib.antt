@@ -17,3 +17,4 @@ pub mod NumberBounds
 pub mod NumberSizes
 pub mod Units
 pub mod NumberPieces
+pub mod Nesting

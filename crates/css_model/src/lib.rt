@@ -1,7 +1,9 @@
 //! What a text of CSS is: its characters after preprocessing, its list of tokens, and the nesting of its brackets.
-//! Definitions in `specs/`, beside CSS Syntax 3 (sections 3.3, 4.2, 4.3, 5.4.7 to 5.4.9) page by page; and one law of them.
+//! Definitions in `specs/`, beside CSS Syntax 3 (sections 3.3, 4.2, 4.3, 5.4.7 to 5.4.9) page by page; and laws of them.
 #![tactic(auto)]
 
+mod component_list;
 mod token_list;
 
+pub use component_list::{one_nesting, some_components};
 pub use token_list::computed_tokens_are_a_token_list;
