@@ -5,7 +5,7 @@ use Rattle.std.specs.Option.{is_some}
 use Rattle.css_model.specs.Classes.{Text}
 use Rattle.css_model.specs.Tokens.{Bracket, round, square, curly, Kind, function, opening, closing, Token}
 use Rattle.css_model.specs.Components.{Component, one, block, call, Components, no_components, component, tokens_of, all_tokens_of, close_tokens, opened_by, is_same, closes, IsClosed, IsNested, AreNested, IsComponents}
-use Rattle.css_model.specs.Nesting.{is_function, bracketed, innermost, Levels, levels, contents_of, alone, closed, enclosed, levels_of, nesting}
+use Rattle.css_model.specs.Nesting.{is_function, bracketed, innermost, Levels, levels, contents_of, alone, closed, enclosed, levels_of, nesting, followed, onto}
 
 -- ---- one token in front
 
@@ -168,30 +168,23 @@ nesting-is tokens =
 
 -- ---- components in front of levels
 
-abbrev pub followed : Components → Components → Components
-followed no_components ds = ds
-followed (component c cs) ds = component c (followed cs ds)
-
-abbrev pub onto : Components → Levels → Levels
-onto cs (levels contents outside) = levels (followed cs contents) outside
-
 pub followed-nothing : (cs : Components) → followed cs no_components ≡ cs
 followed-nothing no_components = refl
 followed-nothing (component c cs) = ap (component c) (followed-nothing cs)
 
-onto-nothing : (l : Levels) → onto no_components l ≡ l
+pub onto-nothing : (l : Levels) → onto no_components l ≡ l
 onto-nothing (levels contents outside) = refl
 
 onto-onto : (c : Component) (cs : Components) (l : Levels) → onto (component c no_components) (onto cs l) ≡ onto (component c cs) l
 onto-onto c cs (levels contents outside) = refl
 
-alone-onto : (t : Token) (l : Levels) → alone t l ≡ onto (component (one t) no_components) l
+pub alone-onto : (t : Token) (l : Levels) → alone t l ≡ onto (component (one t) no_components) l
 alone-onto t (levels contents outside) = refl
 
-enclosed-closed : (head t : Token) (contents : Components) (l : Levels) → enclosed head (onto contents (closed t l)) ≡ onto (component (bracketed head contents (Some t)) no_components) l
+pub enclosed-closed : (head t : Token) (contents : Components) (l : Levels) → enclosed head (onto contents (closed t l)) ≡ onto (component (bracketed head contents (Some t)) no_components) l
 enclosed-closed head t contents (levels behind outside) = rw (followed-nothing contents) refl
 
-enclosed-end : (head : Token) (contents : Components) → enclosed head (onto contents (levels no_components [])) ≡ onto (component (bracketed head contents None) no_components) (levels no_components [])
+pub enclosed-end : (head : Token) (contents : Components) → enclosed head (onto contents (levels no_components [])) ≡ onto (component (bracketed head contents None) no_components) (levels no_components [])
 enclosed-end head contents = rw (followed-nothing contents) refl
 
 -- the end of a bracket

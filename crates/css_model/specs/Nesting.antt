@@ -24,6 +24,15 @@ pub data Levels : Type 0 where
 abbrev pub contents_of : Levels → Components
 contents_of (levels contents outside) = contents
 
+-- components, and then more of them
+abbrev pub followed : Components → Components → Components
+followed no_components ds = ds
+followed (component c cs) ds = component c (followed cs ds)
+
+-- components stand in front
+abbrev pub onto : Components → Levels → Levels
+onto cs (levels contents outside) = levels (followed cs contents) outside
+
 -- a token alone stands in front
 abbrev pub alone : Token → Levels → Levels
 alone t (levels contents outside) = levels (component (one t) contents) outside

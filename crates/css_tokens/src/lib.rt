@@ -6,6 +6,7 @@ mod component;
 mod decimals;
 mod fault;
 mod magnitudes;
+mod nesting;
 mod numerals;
 mod reading;
 mod runs;
@@ -13,4 +14,5 @@ mod token;
 
 pub use component::{Component, Components};
 pub use fault::TokenFault;
+pub use nesting::components;
 pub use token::{Bracket, Number, Token, TokenKind, Tokens};
