@@ -7,6 +7,8 @@ mod decimals;
 mod fault;
 mod magnitudes;
 mod nesting;
+#[cfg(test)]
+mod nesting_tests;
 mod numerals;
 mod reading;
 mod runs;
