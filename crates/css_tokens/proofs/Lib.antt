@@ -2,3 +2,4 @@ pub mod RunSteps
 pub mod LimitedDecimals
 pub mod Quotients
 pub mod Points
+pub mod WrittenTexts

@@ -7,9 +7,11 @@ mod decimals;
 mod fault;
 mod magnitudes;
 mod numerals;
+mod preprocessing;
 mod reading;
 mod runs;
 mod token;
+mod written;
 
 pub use component::{Component, Components};
 pub use fault::TokenFault;

@@ -6,6 +6,14 @@ ghost use Rattle.css_tokens.specs.Tests.{test_of};
 
 use super::classes::Class;
 
+/// What stands behind so many characters.
+pub fn behind<'a>(cs: &'a [char], count: usize) -> &'a [char]
+    requires { count ≤ length cs.now }
+    ensures { result.now ≡ drop count cs.now }
+{
+    cs.split_at(count).1
+}
+
 /// Whether the first character is of this class.
 pub fn begins(class: Class, cs: &[char]) -> bool
     ensures { result ≡ model.begins (test_of class) cs.now }
