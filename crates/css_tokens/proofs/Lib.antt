@@ -3,3 +3,4 @@ pub mod LimitedDecimals
 pub mod Quotients
 pub mod Points
 pub mod WrittenTexts
+pub mod HexValues

@@ -7,6 +7,7 @@ mod decimals;
 mod fault;
 mod magnitudes;
 mod numerals;
+mod parts;
 mod preprocessing;
 mod reading;
 mod runs;

@@ -28,6 +28,7 @@ pub fn begins(class: Class, cs: &[char]) -> bool
 pub fn run<'a>(class: Class, cs: &'a [char]) -> (&'a [char], &'a [char])
     ensures front { result.0.now ≡ run_in (test_of class) cs.now }
     ensures behind { result.1.now ≡ drop (length (run_in (test_of class) cs.now)) cs.now }
+    ensures within { length result.0.now ≤ length cs.now }
 {
     cs.split_at(run_length(class, cs))
 }
