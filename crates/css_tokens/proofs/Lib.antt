@@ -4,3 +4,4 @@ pub mod Quotients
 pub mod Points
 pub mod WrittenTexts
 pub mod HexValues
+pub mod KeptParts

@@ -11,6 +11,7 @@ mod parts;
 mod preprocessing;
 mod reading;
 mod runs;
+mod spans;
 mod token;
 mod written;
 
