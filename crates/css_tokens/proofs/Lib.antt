@@ -5,3 +5,6 @@ pub mod Points
 pub mod WrittenTexts
 pub mod HexValues
 pub mod KeptParts
+pub mod CommentSteps
+pub mod UrlNames
+pub mod CalledNames

@@ -2,17 +2,24 @@
 #![tactic(auto)]
 
 mod classes;
+mod comments;
 mod component;
 mod decimals;
 mod fault;
 mod magnitudes;
+mod names;
+mod numbers;
 mod numerals;
 mod parts;
+mod piece;
+mod pieces;
 mod preprocessing;
 mod reading;
 mod runs;
 mod spans;
+mod strings;
 mod token;
+mod urls;
 mod written;
 
 pub use component::{Component, Components};

@@ -49,6 +49,7 @@ fn run_length(class: Class, cs: &[char]) -> usize
 pub fn one<'a>(class: Class, cs: &'a [char]) -> (&'a [char], &'a [char])
     ensures front { result.0.now ≡ one_in (test_of class) cs.now }
     ensures behind { result.1.now ≡ drop (length (one_in (test_of class) cs.now)) cs.now }
+    ensures within { length result.0.now ≤ length cs.now }
 {
     let count = if begins(class, cs) { 1 } else { 0 };
     cs.split_at(count)
