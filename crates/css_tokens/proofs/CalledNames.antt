@@ -46,7 +46,7 @@ read-url cs count name r t u =
     let parts : List Part = parts_in in_name cs in
     let after : drop 1 (behind_parts parts cs) ≡ drop (count + 1) cs = behind-head cs count name r in
     let test : (is_url_name (flat_map meaning parts) && not (quote_follows (drop 1 (behind_parts parts cs)))) ≡ true =
-      ap (λ xs. is_url_name (flat_map meaning parts) && not (quote_follows xs)) after ∙ (ap (λ m. is_url_name m && not (quote_follows (drop (count + 1) cs))) (sym r.named) ∙ u) in
+    ap (λ xs. is_url_name (flat_map meaning parts) && not (quote_follows xs)) after ∙ (ap (λ m. is_url_name m && not (quote_follows (drop (count + 1) cs))) (sym r.named) ∙ u) in
     name-url parts (behind_parts parts cs) (ap (λ n. opens (drop n cs)) (sym r.counted) ∙ t) test ∙ ap (url_piece (head_of cs)) after
 
 pub read-function : (cs : Text) (count : ℕ) (name : Text) → Read cs count name → opens (drop count cs) ≡ true → (is_url_name name && not (quote_follows (drop (count + 1) cs))) ≡ false
@@ -55,5 +55,5 @@ read-function cs count name r t u =
     let parts : List Part = parts_in in_name cs in
     let after : drop 1 (behind_parts parts cs) ≡ drop (count + 1) cs = behind-head cs count name r in
     let test : (is_url_name (flat_map meaning parts) && not (quote_follows (drop 1 (behind_parts parts cs)))) ≡ false =
-      ap (λ xs. is_url_name (flat_map meaning parts) && not (quote_follows xs)) after ∙ (ap (λ m. is_url_name m && not (quote_follows (drop (count + 1) cs))) (sym r.named) ∙ u) in
+    ap (λ xs. is_url_name (flat_map meaning parts) && not (quote_follows xs)) after ∙ (ap (λ m. is_url_name m && not (quote_follows (drop (count + 1) cs))) (sym r.named) ∙ u) in
     name-function parts (behind_parts parts cs) (ap (λ n. opens (drop n cs)) (sym r.counted) ∙ t) test ∙ ap (λ m. token (function m) (head_of cs)) (sym r.named)

@@ -198,7 +198,7 @@ span-step place cs at n part h e size =
     let f : FrontPart place rest part = front-some place rest part e in
     let behind : drop (length_of part) rest ≡ drop (at + n) cs = ap (λ k. drop k rest) (sym size) ∙ drop-drop n at cs in
     let count : length (parts_text (parts_in (allowed_at place) rest)) ≡ n + length (parts_text (parts_in (allowed_at place) (drop (at + n) cs))) =
-      parts-more place rest part e ∙ (ap (λ xs. length_of part + length (parts_text (parts_in (allowed_at place) xs))) behind ∙ ap (λ k. k + length (parts_text (parts_in (allowed_at place) (drop (at + n) cs)))) (sym size)) in
+    parts-more place rest part e ∙ (ap (λ xs. length_of part + length (parts_text (parts_in (allowed_at place) xs))) behind ∙ ap (λ k. k + length (parts_text (parts_in (allowed_at place) (drop (at + n) cs)))) (sym size)) in
     let room : length rest ≡ length cs - at = length-drop at cs in
     record {
       within = omega (arith, count, parts-within place rest, room, h);

@@ -8,3 +8,4 @@ pub mod KeptParts
 pub mod CommentSteps
 pub mod UrlNames
 pub mod CalledNames
+pub mod FoundPieces

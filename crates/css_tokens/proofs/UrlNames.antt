@@ -45,13 +45,13 @@ url-name-is result bytes name test characters encoded =
     let decides = bytes_eq-Decides (str_to_ascii_lowercase name) (str_to_ascii_lowercase (codes "url")) in
     both-ways result (is_url_name name)
     (λ t.
-      let lower : map to_ascii_lowercase bytes ≡ map to_ascii_lowercase (codes "url") = test.0 t in
-      let same : name ≡ bytes = sym characters ∙ chars-IsAscii bytes (url-ascii bytes lower) in
-      decides.1 (ap (map to_ascii_lowercase) same ∙ lower))
+    let lower : map to_ascii_lowercase bytes ≡ map to_ascii_lowercase (codes "url") = test.0 t in
+    let same : name ≡ bytes = sym characters ∙ chars-IsAscii bytes (url-ascii bytes lower) in
+    decides.1 (ap (map to_ascii_lowercase) same ∙ lower))
     (λ t.
-      let lower : map to_ascii_lowercase name ≡ map to_ascii_lowercase (codes "url") = decides.0 t in
-      let same : bytes ≡ name = encoded ∙ encodes-IsAscii name (url-ascii name lower) in
-      test.1 (ap (map to_ascii_lowercase) same ∙ lower))
+    let lower : map to_ascii_lowercase name ≡ map to_ascii_lowercase (codes "url") = decides.0 t in
+    let same : bytes ≡ name = encoded ∙ encodes-IsAscii name (url-ascii name lower) in
+    test.1 (ap (map to_ascii_lowercase) same ∙ lower))
 
 -- ---- the quote that follows
 

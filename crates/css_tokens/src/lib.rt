@@ -19,9 +19,11 @@ mod runs;
 mod spans;
 mod strings;
 mod token;
+mod tokenizer;
 mod urls;
 mod written;
 
 pub use component::{Component, Components};
 pub use fault::TokenFault;
 pub use token::{Bracket, Number, Token, TokenKind, Tokens};
+pub use tokenizer::tokenize;

@@ -217,13 +217,7 @@ fn character_of(n: u32) -> char
     ensures { result ≡ model.character_of n }
 {
     match char::from_u32(n) {
-        Some(c) => {
-            if c == '\0' {
-                REPLACEMENT
-            } else {
-                c
-            }
-        }
+        Some(c) => { if c == '\0' { REPLACEMENT } else { c } }
         None => REPLACEMENT,
     }
 }

@@ -21,12 +21,7 @@ use port_core::NoMemory;
 use std::alloc::Global;
 
 /// The first piece of a text, which is this character and the rest.
-pub fn first_piece(
-    alloc: Global,
-    c: char,
-    rest: &[char],
-    text: &[char],
-) -> Result<Piece, NoMemory>
+pub fn first_piece(alloc: Global, c: char, rest: &[char], text: &[char]) -> Result<Piece, NoMemory>
     requires { text.now ≡ c ∷ rest.now }
     ensures { IfOk result (λ p. IsFound p (model.first_piece c rest.now)) }
 {
@@ -72,12 +67,7 @@ fn begins_cdo(cs: &[char]) -> bool
 }
 
 /// The piece of a text that begins with no white space, quote, comment or number.
-fn other_piece(
-    alloc: Global,
-    c: char,
-    rest: &[char],
-    text: &[char],
-) -> Result<Piece, NoMemory>
+fn other_piece(alloc: Global, c: char, rest: &[char], text: &[char]) -> Result<Piece, NoMemory>
     requires { text.now ≡ c ∷ rest.now }
     ensures { IfOk result (λ p. IsFound p (model.other_piece (parts_in in_name text.now) c rest.now)) }
 {

@@ -85,8 +85,7 @@ pub fn begins_identifier(cs: &[char]) -> bool
 {
     match front_part(Place::Name, cs) {
         Some(part) => {
-            part.starts_name()
-                || (part.is_hyphen() && follows_hyphen(behind(cs, part.len())))
+            part.starts_name() || (part.is_hyphen() && follows_hyphen(behind(cs, part.len())))
         }
         None => false,
     }

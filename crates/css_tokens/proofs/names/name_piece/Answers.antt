@@ -17,7 +17,7 @@ returns-then-begins_url c =
     let read : Read cs count name = record { counted = c.in_ok-span.ensures.count; named = c.in_ok-span.ensures.meaning } in
     let opened : opens (drop count cs) ≡ true = ap opens (sym c.behind.ensures) ∙ (sym c.begins.ensures ∙ c.if-not-begins.false) in
     let test : (is_url_name name && not (quote_follows (drop (count + 1) cs))) ≡ true =
-      ap (λ xs. is_url_name name && not (quote_follows xs)) (sym c.behind-2.ensures) ∙ (sym c.begins_url.ensures ∙ c.if-begins_url.true) in
+    ap (λ xs. is_url_name name && not (quote_follows xs)) (sym c.behind-2.ensures) ∙ (sym c.begins_url.ensures ∙ c.if-begins_url.true) in
     subst (λ piece. IfOk c.url_piece.result (λ p. IsFound p piece)) (sym (read-url cs count name read opened test)) (c.url_piece.ensures (head_of cs) (head-length cs count name read))
 
 pub returns-else-begins_url : goal.returns-else-begins_url
@@ -28,6 +28,7 @@ returns-else-begins_url c =
     let read : Read cs count name = record { counted = c.in_ok-span.ensures.count; named = c.in_ok-span.ensures.meaning } in
     let opened : opens (drop count cs) ≡ true = ap opens (sym c.behind.ensures) ∙ (sym c.begins.ensures ∙ c.if-not-begins.false) in
     let test : (is_url_name name && not (quote_follows (drop (count + 1) cs))) ≡ false =
-      ap (λ xs. is_url_name name && not (quote_follows xs)) (sym c.behind-2.ensures) ∙ (sym c.begins_url.ensures ∙ c.if-begins_url.false) in
-    (ap (option_map kind_view) c.token-else-begins_url.ensures.kind ∙ sym (ap class_of (read-function cs count name read opened test)),
-     c.token-else-begins_url.ensures.count ∙ (sym (head-length cs count name read) ∙ sym (ap (λ p. length (piece_text p)) (read-function cs count name read opened test))))
+    ap (λ xs. is_url_name name && not (quote_follows xs)) (sym c.behind-2.ensures) ∙ (sym c.begins_url.ensures ∙ c.if-begins_url.false) in (
+      ap (option_map kind_view) c.token-else-begins_url.ensures.kind ∙ sym (ap class_of (read-function cs count name read opened test)),
+      c.token-else-begins_url.ensures.count ∙ (sym (head-length cs count name read) ∙ sym (ap (λ p. length (piece_text p)) (read-function cs count name read opened test))),
+    )
