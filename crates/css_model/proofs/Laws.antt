@@ -23,11 +23,11 @@ pieces_after-drop (suc n) [] = refl
 pieces_after-drop zero (c ∷ cs) = refl
 pieces_after-drop (suc n) (c ∷ cs) = pieces_after-drop n cs
 
-pieces-nil : pieces [] ≡ []
+pub pieces-nil : pieces [] ≡ []
 unfolding pieces_after
 pieces-nil = refl
 
-pieces-cons : (c : ℕ) (cs : Text) → pieces (c ∷ cs) ≡ first_piece c cs ∷ pieces (drop (pred (length (piece_text (first_piece c cs)))) cs)
+pub pieces-cons : (c : ℕ) (cs : Text) → pieces (c ∷ cs) ≡ first_piece c cs ∷ pieces (drop (pred (length (piece_text (first_piece c cs)))) cs)
 unfolding pieces_after
 pieces-cons c cs = ap (λ ps. first_piece c cs ∷ ps) (pieces_after-drop (pred (length (piece_text (first_piece c cs)))) cs)
 

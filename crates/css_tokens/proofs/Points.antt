@@ -33,8 +33,8 @@ read-right l whole fraction places kept v w r k a b c =
     let front : take kept fraction ≡ take places fraction = ap (λ n. take n fraction) k ∙ take-within places fraction in
     let zeros : places - kept ≡ places - length fraction = omega (arith, k) in
     let value : w ≡ min l (decimal_after 0 (whole ++ take places fraction)) =
-      b ∙ (ap (λ n. min l (decimal_after n (take kept fraction))) a ∙ (decimal-limited l (decimal_after 0 whole) (take kept fraction)
-      ∙ (ap (λ xs. min l (decimal_after (decimal_after 0 whole) xs)) front ∙ ap (min l) (sym (decimal-append 0 whole (take places fraction)))))) in
+    b ∙ (ap (λ n. min l (decimal_after n (take kept fraction))) a ∙ (decimal-limited l (decimal_after 0 whole) (take kept fraction)
+    ∙ (ap (λ xs. min l (decimal_after (decimal_after 0 whole) xs)) front ∙ ap (min l) (sym (decimal-append 0 whole (take places fraction)))))) in
     c ∙ (ap (λ n. min l (n * 10 ^ (places - kept))) value
     ∙ (limited-times l (decimal_after 0 (whole ++ take places fraction)) (10 ^ (places - kept)) (ten-some (places - kept))
     ∙ ap (λ z. min l (decimal_after 0 (whole ++ take places fraction) * 10 ^ z)) zeros))

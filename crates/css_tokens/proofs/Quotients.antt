@@ -100,7 +100,7 @@ point-right whole fraction places h = elim (cases_lt places (length fraction)) [
       let size : length left + places ≡ length fraction = rw (length-drop places fraction) (omega (arith, few)) in
       let none : places - length fraction ≡ 0 = omega (arith, few) in
       let whole-is : decimal_after 0 (whole ++ fraction) ≡ a * 10 ^ length left + decimal_after 0 left =
-        ap (λ xs. decimal_after 0 (whole ++ xs)) (sym (take-append-drop places fraction)) ∙ (ap (decimal_after 0) (sym (append_assoc whole kept left)) ∙ (decimal-append 0 (whole ++ kept) left ∙ decimal-split a left)) in
+      ap (λ xs. decimal_after 0 (whole ++ xs)) (sym (take-append-drop places fraction)) ∙ (ap (decimal_after 0) (sym (append_assoc whole kept left)) ∙ (decimal-append 0 (whole ++ kept) left ∙ decimal-split a left)) in
       let cut : ((a * 10 ^ length left + decimal_after 0 left) * 10 ^ places) / 10 ^ (length left + places) ≡ a = cut-off a (decimal_after 0 left) (length left) places (decimal-below left (all-take fraction places h)) in
       rw (none, whole-is, ← size, cut) (omega arith)
   | inr many ↦
@@ -127,6 +127,6 @@ point-left whole fraction places j h k = elim (cases_lt (length whole) places) [
       let size : length left ≡ length fraction + places = length-append (drop m whole) fraction ∙ rw (length-drop m whole) (omega (arith, near)) in
       let all : list_all is_digit left ≡ true = list_all-append is_digit (drop m whole) fraction ∙ ap₂ ◌&&◌ (all-take whole m h) k in
       let whole-is : decimal_after 0 (whole ++ fraction) ≡ a * 10 ^ length left + decimal_after 0 left =
-        ap (λ xs. decimal_after 0 (xs ++ fraction)) (sym (take-append-drop m whole)) ∙ (ap (decimal_after 0) (append_assoc kept (drop m whole) fraction) ∙ (decimal-append 0 kept left ∙ decimal-split a left)) in
+      ap (λ xs. decimal_after 0 (xs ++ fraction)) (sym (take-append-drop m whole)) ∙ (ap (decimal_after 0) (append_assoc kept (drop m whole) fraction) ∙ (decimal-append 0 kept left ∙ decimal-split a left)) in
       rw (whole-is, ← size) (cut-off a (decimal_after 0 left) (length left) j (decimal-below left all))
 ]

@@ -11,6 +11,8 @@ pub enum Class {
     White,
     Sign,
     Hyphen,
+    Quote,
+    OpenRound,
     CloseRound,
 }
 
@@ -25,6 +27,8 @@ impl Class {
             Class::White => is_white(c),
             Class::Sign => is_sign(c),
             Class::Hyphen => c == '-',
+            Class::Quote => is_quote(c),
+            Class::OpenRound => c == '(',
             Class::CloseRound => c == ')',
         }
     }

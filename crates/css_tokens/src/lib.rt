@@ -2,6 +2,7 @@
 #![tactic(auto)]
 
 mod classes;
+mod comments;
 mod component;
 mod decimals;
 mod fault;
@@ -9,12 +10,24 @@ mod magnitudes;
 mod nesting;
 #[cfg(test)]
 mod nesting_tests;
+mod names;
+mod numbers;
 mod numerals;
+mod parts;
+mod piece;
+mod pieces;
+mod preprocessing;
 mod reading;
 mod runs;
+mod spans;
+mod strings;
 mod token;
+mod tokenizer;
+mod urls;
+mod written;
 
 pub use component::{Component, Components};
 pub use fault::TokenFault;
 pub use nesting::components;
 pub use token::{Bracket, Number, Token, TokenKind, Tokens};
+pub use tokenizer::tokenize;

@@ -1,42 +1,7 @@
-ghost use Rattle.std.specs.Prelude.{◌≡◌, length};
-ghost use Rattle.std.specs.Str.{chars};
-
-use crate::{Bracket, Component, Token, TokenFault, TokenKind, Tokens, components};
-use port_core::{NoMemory, Seq, Text};
+use crate::{Component, Token, TokenFault, components, tokenize};
+use port_core::NoMemory;
 use std::alloc::Global;
 use std::test::Fail;
-
-/// The class of a token of one character, where `f` stands for the function `f(`.
-fn kind(alloc: Global, c: char) -> Result<TokenKind, NoMemory> {
-    Ok(match c {
-        '(' => TokenKind::Opening(Bracket::Round),
-        '[' => TokenKind::Opening(Bracket::Square),
-        '{' => TokenKind::Opening(Bracket::Curly),
-        ')' => TokenKind::Closing(Bracket::Round),
-        ']' => TokenKind::Closing(Bracket::Square),
-        '}' => TokenKind::Closing(Bracket::Curly),
-        ',' => TokenKind::Comma,
-        'f' => TokenKind::Function(Text::new(alloc, "f")?),
-        _ => TokenKind::Delim(c),
-    })
-}
-
-/// A token of one character for each character of a text, all at the place 0.
-fn tokens(alloc: Global, text: &str) -> Result<Tokens, NoMemory> {
-    let mut tokens = Seq::new(alloc);
-    for c in text.chars() {
-        let mut spelling = String::new(alloc);
-        spelling.push(c)?;
-        let spelling = Text::from_string(spelling);
-        tokens.push(Token {
-            kind: kind(alloc, c)?,
-            start: 0,
-            end: 1,
-            spelling,
-        })?;
-    }
-    Ok(tokens)
-}
 
 /// Spells components: a block between `<` and `>`, a function between `/` and `/`, and `_` where a closing token is missing.
 fn spell(components: &[Component], spelled: &mut String) -> Result<(), NoMemory> {
@@ -79,15 +44,17 @@ fn brackets_are_nested(rt: HostRuntime) -> Result<(), Fail> {
         ("(]", "<(]_>"),
         ("(])", "<(])>"),
         ("([)]", "<(<[)]>_>"),
-        ("f", "/f_/"),
-        ("f]", "/f]_/"),
-        ("f)", "/f)/"),
+        ("f(", "/f(_/"),
+        ("f(]", "/f(]_/"),
+        ("f()", "/f()/"),
         ("()", "<()>"),
         ("[({})]", "<[<(<{}>)>]>"),
-        ("fa,(b)c", "/fa,<(b)>c_/"),
+        ("f(a,(b)c", "/f(a,<(b)>c_/"),
+        ("f(g(]/**/)h", "/f(/g(])/h_/"),
+        ("url(a)(", "url(a)<(_>"),
         ("a(b)c[d]}e", "a<(b)>c<[d]>}e"),
     ] {
-        let components = components(rt.alloc(), &tokens(rt.alloc(), text)?)?;
+        let components = components(rt.alloc(), &tokenize(rt.alloc(), text)?)?;
         let mut spelled = String::new(rt.alloc());
         spell(components.as_slice(), &mut spelled)?;
         assert_eq!(rt; spelled.as_str(), want, "at {text}");
@@ -110,14 +77,14 @@ fn brackets_nest_up_to_a_limit(rt: HostRuntime) -> Result<(), Fail> {
         ("[", "", false),
         ("[", "]]a[", false),
         ("[", ")", false),
-        ("f", "a", false),
+        ("f(", "a", false),
         ("[", "(", true),
-        ("f", "f", true),
+        ("f(", "f(", true),
         ("{", "}{{", true),
     ] {
         let mut text = repeated(rt.alloc(), opening, 64)?;
         text.push_str(behind)?;
-        let answer = components(rt.alloc(), &tokens(rt.alloc(), text.as_str())?);
+        let answer = components(rt.alloc(), &tokenize(rt.alloc(), text.as_str())?);
         let refused = matches!(answer, Err(TokenFault::TooDeep));
         assert_eq!(rt; refused, is_too_deep, "at {text}");
     }

@@ -6,6 +6,14 @@ ghost use Rattle.css_tokens.specs.Tests.{test_of};
 
 use super::classes::Class;
 
+/// What stands behind so many characters.
+pub fn behind<'a>(cs: &'a [char], count: usize) -> &'a [char]
+    requires { count ≤ length cs.now }
+    ensures { result.now ≡ drop count cs.now }
+{
+    cs.split_at(count).1
+}
+
 /// Whether the first character is of this class.
 pub fn begins(class: Class, cs: &[char]) -> bool
     ensures { result ≡ model.begins (test_of class) cs.now }
@@ -20,6 +28,7 @@ pub fn begins(class: Class, cs: &[char]) -> bool
 pub fn run<'a>(class: Class, cs: &'a [char]) -> (&'a [char], &'a [char])
     ensures front { result.0.now ≡ run_in (test_of class) cs.now }
     ensures behind { result.1.now ≡ drop (length (run_in (test_of class) cs.now)) cs.now }
+    ensures within { length result.0.now ≤ length cs.now }
 {
     cs.split_at(run_length(class, cs))
 }
@@ -40,6 +49,7 @@ fn run_length(class: Class, cs: &[char]) -> usize
 pub fn one<'a>(class: Class, cs: &'a [char]) -> (&'a [char], &'a [char])
     ensures front { result.0.now ≡ one_in (test_of class) cs.now }
     ensures behind { result.1.now ≡ drop (length (one_in (test_of class) cs.now)) cs.now }
+    ensures within { length result.0.now ≤ length cs.now }
 {
     let count = if begins(class, cs) { 1 } else { 0 };
     cs.split_at(count)
