@@ -7,10 +7,10 @@ mod component;
 mod decimals;
 mod fault;
 mod magnitudes;
+mod names;
 mod nesting;
 #[cfg(test)]
 mod nesting_tests;
-mod names;
 mod numbers;
 mod numerals;
 mod parts;

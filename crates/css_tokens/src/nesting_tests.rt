@@ -52,7 +52,7 @@ fn brackets_are_nested(rt: HostRuntime) -> Result<(), Fail> {
         ("f(a,(b)c", "/f(a,<(b)>c_/"),
         ("f(g(]/**/)h", "/f(/g(])/h_/"),
         ("url(a)(", "url(a)<(_>"),
-        ("a(b)c[d]}e", "a<(b)>c<[d]>}e"),
+        ("a (b)c[d]}e", "a <(b)>c<[d]>}e"),
     ] {
         let components = components(rt.alloc(), &tokenize(rt.alloc(), text)?)?;
         let mut spelled = String::new(rt.alloc());
