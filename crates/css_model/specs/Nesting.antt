@@ -12,12 +12,12 @@ is_function other = false
 abbrev pub bracketed : Token → Components → Option Token → Component
 bracketed head contents close = if is_function head.kind then call head contents close else block head contents close
 
--- of the tokens that opened brackets, the last one first, the bracket that is still to be closed first
+-- the innermost open bracket, where these tokens opened brackets, the last one first
 abbrev pub innermost : List Token → Option Bracket
 innermost [] = None
 innermost (head ∷ outer) = opened_by head.kind
 
--- how tokens go on inside open brackets: what the innermost one holds, and, for each that is closed, from the innermost one on, the token that closes it with what stands behind that in the bracket around it
+-- what stands in open brackets from some place on: in the innermost one, and then, for each that gets closed, the token that closes it, with what stands behind that in the bracket around it
 pub data Levels : Type 0 where
   levels : (contents : Components) (outside : List (Token × Components)) → Levels
 
@@ -37,16 +37,16 @@ onto cs (levels contents outside) = levels (followed cs contents) outside
 abbrev pub alone : Token → Levels → Levels
 alone t (levels contents outside) = levels (component (one t) contents) outside
 
--- a token in front closes the innermost bracket
+-- a token in front closes the innermost bracket, and the others go on behind it
 abbrev pub closed : Token → Levels → Levels
 closed t (levels contents outside) = levels no_components ((t, contents) ∷ outside)
 
--- a token in front opens the innermost bracket
+-- a token in front opens the innermost bracket, which ends with its match, or where the tokens end
 abbrev pub enclosed : Token → Levels → Levels
 enclosed head (levels contents []) = levels (component (bracketed head contents None) no_components) []
 enclosed head (levels contents (level ∷ outside)) = levels (component (bracketed head contents (Some level.0)) level.1) outside
 
--- how these tokens go on inside the brackets that these tokens opened
+-- tokens, where brackets are open that `heads` opened, the last one first
 unfoldable pub levels_of : List Token → List Token → Levels
 levels_of heads [] = levels no_components []
 levels_of heads (t ∷ ts) =
