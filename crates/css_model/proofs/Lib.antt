@@ -25,3 +25,4 @@ pub mod StringsAlike
 pub mod Alone
 pub mod OnePiece
 pub mod OneTokenList
+pub mod Nesting

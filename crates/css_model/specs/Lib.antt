@@ -8,3 +8,4 @@ pub mod TokenList
 pub mod Components
 pub mod Fronts
 pub mod Pieces
+pub mod Nesting

@@ -1,10 +1,12 @@
 //! What a text of CSS is: its characters after preprocessing, its list of tokens, and the nesting of its brackets.
-//! Definitions in `specs/`, beside CSS Syntax 3 (sections 3.3, 4.2, 4.3, 5.4.7 to 5.4.9) page by page; and the laws that each text has one token list.
+//! Definitions in `specs/`, beside CSS Syntax 3 (sections 3.3, 4.2, 4.3, 5.4.7 to 5.4.9) page by page; and the laws that each text has one token list, and each token list one nesting.
 #![tactic(auto)]
 
+mod component_list;
 mod examples;
 mod token_list;
 
+pub use component_list::{one_nesting, some_components};
 pub use examples::{
     examples_of_classes, examples_of_escapes, examples_of_numbers, examples_of_places,
 };

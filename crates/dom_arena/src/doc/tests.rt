@@ -5,6 +5,7 @@ ghost use Rattle.dom_arena.specs.Shape.{shape};
 ghost use Rattle.dom_arena.specs.Children.{child_ids};
 
 use super::Doc;
+use crate::fault::DocFault;
 use crate::tree::Tree;
 use port_core::{NoMemory, NodeId, Seq, Text};
 use std::alloc::Global;
@@ -12,20 +13,16 @@ use std::process::Abort;
 use std::test::Fail;
 
 fn element(alloc: Global, name: &str, kids: Seq<Tree>) -> Result<Tree, NoMemory>
-    ensures { IfOk result (λ t. shape t ≡ elem (chars name.now) [] (trees_of (map shape kids))) }
+    ensures { IfOk result (λ t. is_elem (shape t) ≡ true) }
 {
     Ok(Tree::Elem(Text::new(alloc, name)?, Seq::new(alloc), kids))
 }
 
-fn text(alloc: Global, content: &str) -> Result<Tree, NoMemory>
-    ensures { IfOk result (λ t. shape t ≡ characters (chars content.now)) }
-{
+fn text(alloc: Global, content: &str) -> Result<Tree, NoMemory> {
     Ok(Tree::Chars(Text::new(alloc, content)?))
 }
 
-fn two(alloc: Global, first: Tree, second: Tree) -> Result<Seq<Tree>, NoMemory>
-    ensures { IfOk result (λ trees. trees ≡ first ∷ second ∷ []) }
-{
+fn two(alloc: Global, first: Tree, second: Tree) -> Result<Seq<Tree>, NoMemory> {
     let mut trees = Seq::new(alloc);
     trees.push(first)?;
     trees.push(second)?;
@@ -34,8 +31,6 @@ fn two(alloc: Global, first: Tree, second: Tree) -> Result<Seq<Tree>, NoMemory>
 
 /// A list of two items, of which the first holds two texts.
 fn list(alloc: Global) -> Result<Tree, NoMemory>
-    ensures size { IfOk result (λ t. size (shape t) ≡ 5) }
-    ensures depth { IfOk result (λ t. depth (shape t) ≡ 3) }
 {
     let texts = two(alloc, text(alloc, "x")?, text(alloc, "y")?)?;
     let first = element(alloc, "item", texts)?;
@@ -45,39 +40,33 @@ fn list(alloc: Global) -> Result<Tree, NoMemory>
 
 /// A page with a list and a text.
 fn page(alloc: Global) -> Result<Tree, NoMemory>
-    ensures shape { IfOk result (λ t. is_elem (shape t) ≡ true) }
-    ensures size { IfOk result (λ t. size (shape t) ≡ 7) }
-    ensures depth { IfOk result (λ t. depth (shape t) ≡ 4) }
+    ensures { IfOk result (λ t. is_elem (shape t) ≡ true) }
 {
     element(alloc, "page", two(alloc, list(alloc)?, text(alloc, "z")?)?)
 }
 
 /// Elements of which each is the only child of the one before.
 fn chain(alloc: Global, length: u32) -> Result<Tree, NoMemory>
-    requires { 0 < length }
-    ensures element { IfOk result (λ t. is_elem (shape t) ≡ true) }
-    ensures size { IfOk result (λ t. size (shape t) ≡ length) }
-    ensures depth { IfOk result (λ t. depth (shape t) ≡ length) }
+    ensures { IfOk result (λ t. is_elem (shape t) ≡ true) }
 {
-    let mut tree = element(alloc, "div", Seq::new(alloc))?;
+    let mut kids = Seq::new(alloc);
     for _i in 1..length {
-        let mut kids = Seq::new(alloc);
-        kids.push(tree)?;
-        tree = element(alloc, "div", kids)?;
+        let kid = element(alloc, "div", kids)?;
+        kids = Seq::new(alloc);
+        kids.push(kid)?;
     }
-    Ok(tree)
+    element(alloc, "div", kids)
 }
 
-/// This many texts.
-fn texts(alloc: Global, count: u32) -> Result<Seq<Tree>, NoMemory>
-    ensures size { IfOk result (λ trees. sizes (trees_of (map shape trees)) ≡ count) }
-    ensures depth { IfOk result (λ trees. depths (trees_of (map shape trees)) ≤ 1) }
+/// An element with this many texts.
+fn texts(alloc: Global, count: u32) -> Result<Tree, NoMemory>
+    ensures { IfOk result (λ t. is_elem (shape t) ≡ true) }
 {
     let mut trees = Seq::new(alloc);
     for _i in 0..count {
         trees.push(text(alloc, "t")?)?;
     }
-    Ok(trees)
+    element(alloc, "div", trees)
 }
 
 /// How a layer above counts children.
@@ -100,6 +89,30 @@ fn expect_node(
     assert_eq!(rt; doc.first_child(id), links[1]);
     assert_eq!(rt; doc.next(id), links[2]);
     assert_eq!(rt; doc.prev(id), links[3]);
+}
+
+/// Asserts why no document is made of a tree.
+fn expect_no_document(rt: &impl Abort, alloc: Global, tree: &Tree, fault: DocFault)
+    requires { is_elem (shape tree.now) ≡ true }
+{
+    assert_eq!(rt; Doc::new(alloc, tree).err(), Some(fault));
+}
+
+/// Asserts what an insert answers.
+fn expect_insert(
+    rt: &impl Abort,
+    doc: &mut Doc,
+    parent: NodeId,
+    index: usize,
+    tree: &Tree,
+    answer: Result<NodeId, DocFault>,
+) {
+    assert_eq!(rt; doc.insert(parent, index, tree), answer);
+}
+
+/// Asserts what a remove answers.
+fn expect_remove(rt: &impl Abort, doc: &mut Doc, id: NodeId, answer: Result<(), DocFault>) {
+    assert_eq!(rt; doc.remove(id), answer);
 }
 
 /// Asserts the children of a node.
@@ -168,14 +181,113 @@ fn the_deepest_chain(rt: HostRuntime) -> Result<(), Fail> {
     let doc = Doc::new(rt.alloc(), &chain(rt.alloc(), 96)?)?;
     expect_node(&rt, &doc, 94, Some("div"), [Some(93), Some(95), None, None]);
     expect_node(&rt, &doc, 95, Some("div"), [Some(94), None, None, None]);
+    let deeper = chain(rt.alloc(), 97)?;
+    expect_no_document(&rt, rt.alloc(), &deeper, DocFault::DepthLimit);
     Ok(())
 }
 
 #[test]
 fn the_most_nodes(rt: HostRuntime) -> Result<(), Fail> {
-    let tree = element(rt.alloc(), "div", texts(rt.alloc(), 19_999)?)?;
-    let doc = Doc::new(rt.alloc(), &tree)?;
+    let doc = Doc::new(rt.alloc(), &texts(rt.alloc(), 19_999)?)?;
     assert_eq!(rt; child_count(&doc, 0), 19_999);
     expect_node(&rt, &doc, 19_999, None, [Some(0), None, None, Some(19_998)]);
+    let more = texts(rt.alloc(), 20_000)?;
+    expect_no_document(&rt, rt.alloc(), &more, DocFault::NodeLimit);
+    Ok(())
+}
+
+#[test]
+fn how_many_nodes_a_tree_has(rt: HostRuntime) -> Result<(), Fail> {
+    assert_eq!(rt; page(rt.alloc())?.node_count(), 7);
+    assert_eq!(rt; text(rt.alloc(), "x")?.node_count(), 1);
+    assert_eq!(rt; texts(rt.alloc(), 20_000)?.node_count(), 20_001);
+    Ok(())
+}
+
+#[test]
+fn insert_and_remove(rt: HostRuntime) -> Result<(), Fail> {
+    let mut doc = Doc::new(rt.alloc(), &page(rt.alloc())?)?;
+    let item = chain(rt.alloc(), 2)?;
+    // In the middle, at the front, at the end, and in an empty element.
+    for (parent, index, id) in [(1, 1, 7), (1, 0, 9), (0, 2, 11), (5, 0, 13)] {
+        expect_insert(&rt, &mut doc, parent, index, &item, Ok(id));
+    }
+    assert_eq!(rt; doc.next_id(), 15);
+    expect_children(&rt, rt.alloc(), &doc, 0, &[1, 6, 11])?;
+    expect_children(&rt, rt.alloc(), &doc, 1, &[9, 2, 7, 5])?;
+    expect_children(&rt, rt.alloc(), &doc, 5, &[13])?;
+    expect_node(&rt, &doc, 7, Some("div"), [Some(1), Some(8), Some(5), Some(2)]);
+    expect_node(&rt, &doc, 5, Some("item"), [Some(1), Some(13), None, Some(7)]);
+    // A text, an element with what stands below it, and the last child.
+    for id in [3, 2, 11] {
+        expect_remove(&rt, &mut doc, id, Ok(()));
+    }
+    for id in [2, 3, 4, 11, 12] {
+        assert!(rt; !doc.is_live(id));
+    }
+    expect_children(&rt, rt.alloc(), &doc, 0, &[1, 6])?;
+    expect_children(&rt, rt.alloc(), &doc, 1, &[9, 7, 5])?;
+    expect_node(&rt, &doc, 9, Some("div"), [Some(1), Some(10), Some(7), None]);
+    expect_node(&rt, &doc, 7, Some("div"), [Some(1), Some(8), Some(5), Some(9)]);
+    expect_insert(&rt, &mut doc, 1, 3, &item, Ok(15));
+    expect_node(&rt, &doc, 15, Some("div"), [Some(1), Some(16), None, Some(5)]);
+    Ok(())
+}
+
+#[test]
+fn refused_edits(rt: HostRuntime) -> Result<(), Fail> {
+    let mut doc = Doc::new(rt.alloc(), &page(rt.alloc())?)?;
+    let item = chain(rt.alloc(), 1)?;
+    expect_remove(&rt, &mut doc, 4, Ok(()));
+    for (parent, index, fault) in [
+        (7, 9, DocFault::NoNode),
+        (4, 0, DocFault::NoNode),
+        (3, 9, DocFault::NotElement),
+        (2, 2, DocFault::BadIndex),
+        (5, usize::MAX, DocFault::BadIndex),
+    ] {
+        expect_insert(&rt, &mut doc, parent, index, &item, Err(fault));
+    }
+    for (id, fault) in [
+        (7, DocFault::NoNode),
+        (4, DocFault::NoNode),
+        (0, DocFault::IsRoot),
+    ] {
+        expect_remove(&rt, &mut doc, id, Err(fault));
+    }
+    expect_children(&rt, rt.alloc(), &doc, 2, &[3])?;
+    assert_eq!(rt; doc.next_id(), 7);
+    Ok(())
+}
+
+#[test]
+fn an_insert_at_the_deepest_level(rt: HostRuntime) -> Result<(), Fail> {
+    let mut doc = Doc::new(rt.alloc(), &chain(rt.alloc(), 95)?)?;
+    let two_levels = chain(rt.alloc(), 2)?;
+    expect_insert(&rt, &mut doc, 94, 0, &two_levels, Err(DocFault::DepthLimit));
+    expect_insert(&rt, &mut doc, 93, 1, &two_levels, Ok(95));
+    let one_level = text(rt.alloc(), "t")?;
+    expect_insert(&rt, &mut doc, 94, 0, &one_level, Ok(97));
+    expect_insert(&rt, &mut doc, 96, 0, &one_level, Err(DocFault::DepthLimit));
+    Ok(())
+}
+
+#[test]
+fn as_many_nodes_and_numbers_as_there_may_be(rt: HostRuntime) -> Result<(), Fail> {
+    let mut doc = Doc::new(rt.alloc(), &chain(rt.alloc(), 1)?)?;
+    let most = texts(rt.alloc(), 19_998)?;
+    let one = chain(rt.alloc(), 1)?;
+    for start in [1, 20_000, 39_999, 59_998, 79_997] {
+        expect_insert(&rt, &mut doc, 0, 0, &most, Ok(start));
+        expect_insert(&rt, &mut doc, 0, 0, &one, Err(DocFault::NodeLimit));
+        expect_remove(&rt, &mut doc, start, Ok(()));
+    }
+    assert_eq!(rt; doc.next_id(), 99_996);
+    let five = chain(rt.alloc(), 5)?;
+    expect_insert(&rt, &mut doc, 0, 0, &five, Err(DocFault::IdLimit));
+    let four = chain(rt.alloc(), 4)?;
+    expect_insert(&rt, &mut doc, 0, 0, &four, Ok(99_996));
+    assert_eq!(rt; doc.next_id(), 100_000);
+    expect_insert(&rt, &mut doc, 0, 0, &one, Err(DocFault::IdLimit));
     Ok(())
 }

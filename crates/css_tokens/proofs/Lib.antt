@@ -1,0 +1,12 @@
+pub mod RunSteps
+pub mod LimitedDecimals
+pub mod Quotients
+pub mod Points
+pub mod OpenBrackets
+pub mod WrittenTexts
+pub mod HexValues
+pub mod KeptParts
+pub mod CommentSteps
+pub mod UrlNames
+pub mod CalledNames
+pub mod FoundPieces

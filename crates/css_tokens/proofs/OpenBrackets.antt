@@ -1,0 +1,189 @@
+-- What open brackets and all that follows are, as one token after another is taken up.
+use Rattle.std.proofs.Common.{◌≡◌, ◌∙◌, sym, ap, refl, subst, ℕ, suc, ◌+◌, ◌≤◌, ◌<◌, max, List, [], ◌∷◌, ◌++◌, length, drop, length-append, inl, inr, Option, Some, None, option_map, Result, Ok, Err, IfOk, true, false, arith}
+use Rattle.std.proofs.lemmas.List.Sums.{fold_push}
+use Rattle.std.proofs.lemmas.Bool.{cases_Bool}
+use Rattle.std.specs.Option.{is_some}
+use Rattle.css_model.specs.Tokens as model
+use Rattle.css_model.specs.Components.{Components, no_components, component, one, depth, depths, max_nesting, IsComponents, opened_by, closes}
+use Rattle.css_model.specs.Nesting.{is_function, bracketed, innermost, Levels, levels, contents_of, followed, onto, closed, enclosed, levels_of, nesting}
+use Rattle.css_model.proofs.Nesting.{nesting-is, levels-opening, levels-closing, levels-alone, levels-end, followed-nothing, onto-nothing, alone-onto, enclosed-closed, enclosed-end}
+use Rattle.css_model.specs.Components as model_components
+use Rattle.css_tokens.specs.declared.component.Component.{Component}
+use Rattle.css_tokens.specs.declared.component.Component.TheVariants.{One, rolls-One}
+use Rattle.css_tokens.specs.declared.component.Component.TheOpen.{Component-F}
+use Rattle.css_tokens.specs.declared.component.Component.TheFolds.{fold-roll-Component}
+use Rattle.css_tokens.specs.declared.nesting.Frame.{Frame}
+use Rattle.css_tokens.specs.declared.fault.TokenFault.{TokenFault}
+use Rattle.css_tokens.specs.declared.fault.TokenFault.TheVariants.{TooDeep}
+use Rattle.css_tokens.specs.declared.nesting.Nesting.{Nesting}
+use Rattle.css_tokens.specs.declared.token.Token.{Token}
+use Rattle.css_tokens.specs.Views.{token_view}
+use Rattle.css_tokens.specs.Nesting.{nested_step, component_view, components_view}
+use Rattle.css_tokens.specs.OpenBrackets.{heads_of, around, with_rest, AreWithin, IsWithin, Ends, Nests}
+
+-- ---- lists
+
+pub view-one : (t : Token) → component_view (One t) ≡ one (token_view t)
+view-one t = ap component_view (sym (rolls-One t)) ∙ fold-roll-Component model_components.Component nested_step (Component-F.One t)
+
+pub view-push : (cs : List Component) (c : Component) → components_view (cs ++ c ∷ []) ≡ followed (components_view cs) (component (component_view c) no_components)
+view-push [] c = refl
+view-push (d ∷ cs) c = ap (component (component_view d)) (view-push cs c)
+
+followed-followed : (cs ds es : Components) → followed cs (followed ds es) ≡ followed (followed cs ds) es
+followed-followed no_components ds es = refl
+followed-followed (component c cs) ds es = ap (component c) (followed-followed cs ds es)
+
+onto-followed : (cs ds : Components) (l : Levels) → onto cs (onto ds l) ≡ onto (followed cs ds) l
+onto-followed cs ds (levels contents outside) = ap (λ es. levels es outside) (followed-followed cs ds contents)
+
+around-more : (frames : List Frame) (f : Frame) (l : Levels) → around (frames ++ f ∷ []) l ≡ around frames (onto (components_view f.before) (enclosed (token_view f.head) l))
+around-more [] f l = refl
+around-more (e ∷ frames) f l = ap (λ m. onto (components_view e.before) (enclosed (token_view e.head) m)) (around-more frames f l)
+
+heads-more : (frames : List Frame) (f : Frame) → heads_of (frames ++ f ∷ []) ≡ token_view f.head ∷ heads_of frames
+heads-more frames f = fold_push (λ heads (f : Frame). token_view f.head ∷ heads) [] frames f
+
+-- ---- what follows
+
+pub rest-start : (n : Nesting) (rest : List model.Token) → n.frames ≡ [] → n.contents ≡ [] → with_rest n rest ≡ nesting rest
+rest-start n rest f c = rw (f, c, onto-nothing) refl
+
+pub rest-alone : (before after : Nesting) (t : model.Token) (rest : List model.Token) → is_some (opened_by t.kind) ≡ false → closes (innermost (heads_of before.frames)) t.kind ≡ false
+    → after.frames ≡ before.frames → components_view after.contents ≡ followed (components_view before.contents) (component (one t) no_components)
+    → with_rest after rest ≡ with_rest before (t ∷ rest)
+rest-alone before after t rest o c f is =
+    rw (f, is, levels-alone (heads_of before.frames) t rest o c, alone-onto, onto-followed) refl
+
+pub rest-opening : (before after : Nesting) (frame : Frame) (rest : List model.Token) → is_some (opened_by (token_view frame.head).kind) ≡ true
+    → after.frames ≡ before.frames ++ frame ∷ [] → frame.before ≡ before.contents → after.contents ≡ []
+    → with_rest after rest ≡ with_rest before (token_view frame.head ∷ rest)
+rest-opening before after frame rest o f b c =
+    rw (f, c, heads-more, around-more, onto-nothing, b, levels-opening (heads_of before.frames) (token_view frame.head) rest o) refl
+
+rest-ends : (before after : Nesting) (close : Option Token) (ends : Ends before close after) (now later : Levels)
+    → enclosed (token_view ends.frame.head) (onto (components_view before.contents) now) ≡ onto (component (bracketed (token_view ends.frame.head) (components_view before.contents) (option_map token_view close)) no_components) later
+    → around before.frames (onto (components_view before.contents) now) ≡ around after.frames (onto (components_view after.contents) later)
+rest-ends before after close ends now later e =
+    rw (ends.frames, ends.contents, around-more, e, onto-followed) refl
+
+pub rest-closing : (before after : Nesting) (t : Token) (rest : List model.Token) → is_some (opened_by (token_view t).kind) ≡ false → closes (innermost (heads_of before.frames)) (token_view t).kind ≡ true
+    → Ends before (Some t) after → with_rest after rest ≡ with_rest before (token_view t ∷ rest)
+rest-closing before after t rest o c ends =
+    let head : model.Token = token_view ends.frame.head in
+    let heads : heads_of before.frames ≡ head ∷ heads_of after.frames = ap heads_of ends.frames ∙ heads-more after.frames ends.frame in
+    let now : levels_of (heads_of before.frames) (token_view t ∷ rest) ≡ closed (token_view t) (levels_of (heads_of after.frames) rest) =
+    levels-closing (heads_of before.frames) (token_view t) rest o c ∙ ap (λ hs. closed (token_view t) (levels_of (drop 1 hs) rest)) heads in
+    let later : Levels = levels_of (heads_of after.frames) rest in
+    rw now (sym (ap contents_of (rest-ends before after (Some t) ends (closed (token_view t) later) later (enclosed-closed head (token_view t) (components_view before.contents) later))))
+
+pub rest-end : (before after : Nesting) → Ends before None after → with_rest after [] ≡ with_rest before []
+rest-end before after ends =
+    let nothing : Levels = levels no_components [] in
+    rw (levels-end (heads_of before.frames), levels-end (heads_of after.frames)) (sym (ap contents_of (rest-ends before after None ends nothing nothing (enclosed-end (token_view ends.frame.head) (components_view before.contents)))))
+
+pub rest-none : (n : Nesting) → n.frames ≡ [] → with_rest n [] ≡ components_view n.contents
+rest-none n f = rw (f, levels-end []) (followed-nothing (components_view n.contents))
+
+-- ---- how deep brackets nest
+
+depths-followed : (cs ds : Components) → depths (followed cs ds) ≡ max (depths cs) (depths ds)
+depths-followed no_components ds = omega arith
+depths-followed (component c cs) ds =
+    let more : depths (followed cs ds) ≡ max (depths cs) (depths ds) = depths-followed cs ds in
+    omega (arith, more)
+
+depth-bracketed : (head : model.Token) (contents : Components) (close : Option model.Token) → depth (bracketed head contents close) ≡ suc (depths contents)
+depth-bracketed head contents close = elim (cases_Bool (is_function head.kind)) [
+  | inl t ↦ rw t refl
+  | inr f ↦ rw f refl
+]
+
+depths-enclosed : (head : model.Token) (l : Levels) → suc (depths (contents_of l)) ≤ depths (contents_of (enclosed head l))
+depths-enclosed head (levels contents []) =
+    let is : depth (bracketed head contents None) ≡ suc (depths contents) = depth-bracketed head contents None in
+    omega (arith, is)
+depths-enclosed head (levels contents (level ∷ outside)) =
+    let is : depth (bracketed head contents (Some level.0)) ≡ suc (depths contents) = depth-bracketed head contents (Some level.0) in
+    omega (arith, is)
+
+depths-onto : (cs : Components) (l : Levels) → depths (contents_of l) ≤ depths (contents_of (onto cs l))
+depths-onto cs (levels contents outside) =
+    let is : depths (followed cs contents) ≡ max (depths cs) (depths contents) = depths-followed cs contents in
+    omega (arith, is)
+
+depths-around : (frames : List Frame) (l : Levels) → length frames + depths (contents_of l) ≤ depths (contents_of (around frames l))
+depths-around [] l = omega arith
+depths-around (f ∷ frames) l =
+    let inside : length frames + depths (contents_of l) ≤ depths (contents_of (around frames l)) = depths-around frames l in
+    let bracket = depths-enclosed (token_view f.head) (around frames l) in
+    let front = depths-onto (components_view f.before) (enclosed (token_view f.head) (around frames l)) in
+    omega (arith, inside, bracket, front)
+
+-- one bracket more than the limit allows is open
+pub depths-limit : (n : Nesting) (t : model.Token) (rest : List model.Token) → is_some (opened_by t.kind) ≡ true → max_nesting ≤ length n.frames
+    → max_nesting < depths (with_rest n (t ∷ rest))
+depths-limit n t rest o h =
+    let heads : List model.Token = heads_of n.frames in
+    let bracket = depths-enclosed t (levels_of (t ∷ heads) rest) in
+    let front = depths-onto (components_view n.contents) (enclosed t (levels_of (t ∷ heads) rest)) in
+    let outside = depths-around n.frames (onto (components_view n.contents) (enclosed t (levels_of (t ∷ heads) rest))) in
+    rw (levels-opening heads t rest o) (omega (arith, h, bracket, front, outside))
+
+within-more : (outside : ℕ) (frames : List Frame) (f : Frame) → AreWithin outside frames → outside + length frames + depths (components_view f.before) ≤ max_nesting → AreWithin outside (frames ++ f ∷ [])
+within-more outside [] f w h = (omega (arith, h), tt)
+within-more outside (e ∷ frames) f w h = (w.0, within-more (suc outside) frames f w.1 (omega (arith, h)))
+
+within-less : (outside : ℕ) (frames : List Frame) (f : Frame) → AreWithin outside (frames ++ f ∷ []) → AreWithin outside frames × (outside + length frames + depths (components_view f.before) ≤ max_nesting)
+within-less outside [] f w = (tt, omega (arith, w.0))
+within-less outside (e ∷ frames) f w =
+    let less = within-less (suc outside) frames f w.1 in
+    ((w.0, less.0), omega (arith, less.1))
+
+pub within-start : (n : Nesting) → n.frames ≡ [] → n.contents ≡ [] → IsWithin n
+within-start n f c = record { frames = rw f tt; contents = rw (f, c) (omega arith) }
+
+pub within-alone : (before after : Nesting) (t : model.Token) → after.frames ≡ before.frames → components_view after.contents ≡ followed (components_view before.contents) (component (one t) no_components)
+    → IsWithin before → IsWithin after
+within-alone before after t f is w =
+    let deep : depths (followed (components_view before.contents) (component (one t) no_components)) ≡ max (depths (components_view before.contents)) (depths (component (one t) no_components)) =
+    depths-followed (components_view before.contents) (component (one t) no_components) in
+    record { frames = rw f w.frames; contents = rw (f, is) (omega (arith, deep, w.contents)) }
+
+pub within-opening : (before after : Nesting) (frame : Frame) → after.frames ≡ before.frames ++ frame ∷ [] → frame.before ≡ before.contents → after.contents ≡ [] → length before.frames < max_nesting
+    → IsWithin before → IsWithin after
+within-opening before after frame f b c h w =
+    let all : length (before.frames ++ frame ∷ []) ≡ length before.frames + 1 = length-append before.frames (frame ∷ []) in
+    record {
+      frames = rw f (within-more 0 before.frames frame w.frames (rw b (omega (arith, w.contents))));
+      contents = rw (f, c) (omega (arith, all, h));
+    }
+
+pub within-ends : (before after : Nesting) (close : Option Token) → Ends before close after → IsWithin before → IsWithin after
+within-ends before after close ends w =
+    let frame : Frame = ends.frame in
+    let all : length before.frames ≡ length after.frames + 1 = ap length ends.frames ∙ length-append after.frames (frame ∷ []) in
+    let less = within-less 0 after.frames frame (subst (AreWithin 0) ends.frames w.frames) in
+    let bracket = bracketed (token_view frame.head) (components_view before.contents) (option_map token_view close) in
+    let deep : depth bracket ≡ suc (depths (components_view before.contents)) = depth-bracketed (token_view frame.head) (components_view before.contents) (option_map token_view close) in
+    let joined : depths (followed (components_view frame.before) (component bracket no_components)) ≡ max (depths (components_view frame.before)) (depths (component bracket no_components)) =
+    depths-followed (components_view frame.before) (component bracket no_components) in
+    record { frames = less.0; contents = rw ends.contents (omega (arith, joined, deep, all, less.1, w.contents)) }
+
+pub within-none : (n : Nesting) → n.frames ≡ [] → IsWithin n → depths (components_view n.contents) ≤ max_nesting
+within-none n f w =
+    let none : length n.frames ≡ 0 = ap length f in
+    omega (arith, none, w.contents)
+
+-- ---- what is answered
+
+pub nested-is : (result : Result (List Component) TokenFault) (tokens : List model.Token) → Nests result tokens
+    → IfOk result (λ cs. IsComponents tokens (components_view cs) × (depths (components_view cs) ≤ max_nesting))
+nested-is (Ok cs) tokens n = (subst (IsComponents tokens) (sym n.0) (nesting-is tokens), n.1)
+nested-is (Err e) tokens n = tt
+
+pub deep-is : (result : Result (List Component) TokenFault) (tokens : List model.Token) → Nests result tokens
+    → result ≡ Err TooDeep → (cs : Components) × IsComponents tokens cs × (max_nesting < depths cs)
+deep-is result tokens n e =
+    let deep : max_nesting < depths (nesting tokens) = subst (λ (r : Result (List Component) TokenFault). Nests r tokens) e n in
+    (nesting tokens, nesting-is tokens, deep)

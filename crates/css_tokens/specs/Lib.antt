@@ -1,0 +1,7 @@
+pub mod Tests
+pub mod Views
+pub mod Written
+pub mod Kept
+pub mod Found
+pub mod Nesting
+pub mod OpenBrackets

@@ -1,0 +1,60 @@
+-- Brackets that are open while components are made of tokens.
+use Rattle.std.specs.Prelude.{◌≡◌, ◌+◌, ◌≤◌, ◌<◌, Result, Ok, Err, ℕ, suc, List, [], ◌∷◌, ◌++◌, length, fold, Option, option_map}
+use Rattle.css_model.specs.Tokens as model
+use Rattle.css_model.specs.Components.{Components, no_components, component, depths, max_nesting}
+use Rattle.css_model.specs.Nesting.{bracketed, Levels, contents_of, onto, followed, enclosed, levels_of, nesting}
+use Rattle.css_tokens.specs.declared.component.Component.{Component}
+use Rattle.css_tokens.specs.declared.fault.TokenFault.{TokenFault}
+use Rattle.css_tokens.specs.declared.fault.TokenFault.TheVariants as fault
+use Rattle.css_tokens.specs.declared.nesting.Frame.{Frame}
+use Rattle.css_tokens.specs.declared.nesting.Nesting.{Nesting}
+use Rattle.css_tokens.specs.declared.token.Token.{Token}
+use Rattle.css_tokens.specs.Views.{token_view}
+use Rattle.css_tokens.specs.Nesting.{components_view}
+
+-- the tokens that opened these brackets, the last one first
+abbrev pub heads_of : List Frame → List model.Token
+heads_of frames = fold (λ heads (f : Frame). token_view f.head ∷ heads) [] frames
+
+-- what stands before and in open brackets, where the innermost one goes on with these levels
+abbrev pub around : List Frame → Levels → Levels
+around [] l = l
+around (f ∷ frames) l = onto (components_view f.before) (enclosed (token_view f.head) (around frames l))
+
+-- all components, where these tokens follow
+abbrev pub with_rest : Nesting → List model.Token → Components
+with_rest n rest = contents_of (around n.frames (onto (components_view n.contents) (levels_of (heads_of n.frames) rest)))
+
+-- what stands before each of these brackets is within the limit, where so many brackets are open around them
+abbrev pub AreWithin : ℕ → List Frame → Type 0
+AreWithin outside [] = Unit {0}
+AreWithin outside (f ∷ frames) = (outside + depths (components_view f.before) ≤ max_nesting) × AreWithin (suc outside) frames
+
+-- brackets nest within the limit so far
+pub record IsWithin (n : Nesting) : Type 0 where
+  pub frames : AreWithin 0 n.frames
+  pub contents : length n.frames + depths (components_view n.contents) ≤ max_nesting
+
+-- the innermost bracket ends
+pub record Ends (before : Nesting) (close : Option Token) (after : Nesting) : Type 0 where
+  pub frame : Frame
+  pub frames : before.frames ≡ after.frames ++ frame ∷ []
+  pub contents : components_view after.contents
+      ≡ followed (components_view frame.before) (component (bracketed (token_view frame.head) (components_view before.contents) (option_map token_view close)) no_components)
+
+-- a token was taken up: brackets are still within the limit, and the components are those of what followed before
+pub record Takes (before : Nesting) (t : model.Token) (after : Nesting) : Type 0 where
+  pub within : IsWithin before → IsWithin after
+  pub rest : (rest : List model.Token) → with_rest after rest ≡ with_rest before (t ∷ rest)
+
+-- what taking up a token answers, unless memory ran out
+abbrev pub Taken : {X : Type 0} → Result X TokenFault → Nesting → model.Token → Nesting → Type 0
+Taken (Ok x) before t after = Takes before t after
+Taken (Err fault.TooDeep) before t after = (rest : List model.Token) → max_nesting < depths (with_rest before (t ∷ rest))
+Taken (Err fault.NoMemory) before t after = Unit {0}
+
+-- what is answered for tokens, unless memory ran out
+abbrev pub Nests : Result (List Component) TokenFault → List model.Token → Type 0
+Nests (Ok cs) tokens = (components_view cs ≡ nesting tokens) × (depths (components_view cs) ≤ max_nesting)
+Nests (Err fault.TooDeep) tokens = max_nesting < depths (nesting tokens)
+Nests (Err fault.NoMemory) tokens = Unit {0}

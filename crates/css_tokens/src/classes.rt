@@ -1,0 +1,105 @@
+//! Classes of characters (CSS Syntax 3, section 4.2).
+ghost use Rattle.std.specs.Prelude.{◌≡◌};
+ghost use Rattle.css_model.specs.Classes as model;
+ghost use Rattle.css_tokens.specs.Tests.{test_of};
+
+/// A class of characters, of which runs are read.
+#[derive(Clone, Copy, Debug, PartialEq, Eq)]
+pub enum Class {
+    Digit,
+    HexDigit,
+    White,
+    Sign,
+    Hyphen,
+    Quote,
+    OpenRound,
+    CloseRound,
+}
+
+impl Class {
+    /// Whether the character is of this class.
+    pub fn has(self, c: char) -> bool
+        ensures { result ≡ test_of self c }
+    {
+        match self {
+            Class::Digit => is_digit(c),
+            Class::HexDigit => is_hex_digit(c),
+            Class::White => is_white(c),
+            Class::Sign => is_sign(c),
+            Class::Hyphen => c == '-',
+            Class::Quote => is_quote(c),
+            Class::OpenRound => c == '(',
+            Class::CloseRound => c == ')',
+        }
+    }
+}
+
+/// A digit: 0 to 9.
+pub fn is_digit(c: char) -> bool
+    ensures { result ≡ model.is_digit c }
+{
+    '0' <= c && c <= '9'
+}
+
+/// A hex digit: a digit, A to F or a to f.
+pub fn is_hex_digit(c: char) -> bool
+    ensures { result ≡ model.is_hex_digit c }
+{
+    is_digit(c) || ('A' <= c && c <= 'F') || ('a' <= c && c <= 'f')
+}
+
+/// A letter: A to Z or a to z.
+pub fn is_letter(c: char) -> bool
+    ensures { result ≡ model.is_letter c }
+{
+    ('A' <= c && c <= 'Z') || ('a' <= c && c <= 'z')
+}
+
+/// An ident-start code point: a letter, what is not ASCII, or `_`.
+pub fn is_name_start(c: char) -> bool
+    ensures { result ≡ model.is_name_start c }
+{
+    is_letter(c) || '\u{80}' <= c || c == '_'
+}
+
+/// An ident code point: an ident-start code point, a digit or `-`.
+pub fn is_name_char(c: char) -> bool
+    ensures { result ≡ model.is_name_char c }
+{
+    is_name_start(c) || is_digit(c) || c == '-'
+}
+
+/// A non-printable code point.
+pub fn is_non_printable(c: char) -> bool
+    ensures { result ≡ model.is_non_printable c }
+{
+    c <= '\u{8}' || c == '\u{b}' || ('\u{e}' <= c && c <= '\u{1f}') || c == '\u{7f}'
+}
+
+/// White space: a newline, a tab or a space.
+pub fn is_white(c: char) -> bool
+    ensures { result ≡ model.is_white c }
+{
+    c == '\n' || c == '\t' || c == ' '
+}
+
+/// A double or single quote.
+pub fn is_quote(c: char) -> bool
+    ensures { result ≡ model.is_quote c }
+{
+    c == '"' || c == '\''
+}
+
+/// `+` or `-`.
+pub fn is_sign(c: char) -> bool
+    ensures { result ≡ model.is_sign c }
+{
+    c == '+' || c == '-'
+}
+
+/// `e` or `E`, before an exponent.
+pub fn is_e(c: char) -> bool
+    ensures { result ≡ model.is_e c }
+{
+    c == 'E' || c == 'e'
+}

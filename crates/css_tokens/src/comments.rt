@@ -1,0 +1,38 @@
+//! Comments (CSS Syntax 3, section 4.3.2).
+ghost use Rattle.std.specs.Prelude.{◌≡◌, ◌≤◌, length, codes};
+ghost use Rattle.css_model.specs.Pieces as model;
+ghost use Rattle.css_tokens.specs.Found.{IsFound};
+
+use super::piece::Piece;
+use super::runs::behind;
+
+/// The comment of which this stands behind `/*`.
+pub fn comment_piece(cs: &[char]) -> Piece
+    ensures { IsFound result (model.comment_piece cs.now) }
+{
+    let inside = inside_length(cs);
+    let end = if inside < cs.len() { 2 } else { 0 };
+    Piece::comment(2 + inside + end)
+}
+
+/// How many characters stand before the first `*/`, or are there at all.
+fn inside_length(cs: &[char]) -> usize
+    ensures inside { result ≡ length (model.comment_inside cs.now) }
+    ensures within { result ≤ length cs.now }
+{
+    for i in 0..cs.len() {
+        if begins_end(behind(cs, i)) {
+            return i;
+        }
+    }
+    cs.len()
+}
+
+fn begins_end(cs: &[char]) -> bool
+    ensures { result ≡ model.has_front (codes "*/") cs.now }
+{
+    match cs {
+        ['*', '/', ..] => true,
+        _ => false,
+    }
+}

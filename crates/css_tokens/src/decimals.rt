@@ -1,0 +1,36 @@
+//! What decimal digits write, up to a limit.
+ghost use Rattle.std.specs.Prelude.{◌≡◌, ◌≤◌, ◌<◌, ◌^◌, ◌*◌, ◌-◌, min};
+ghost use Rattle.css_model.specs.Numerals.{decimal_after};
+
+/// The number that these digits write behind others that write `value`, up to a limit.
+pub fn decimal_within(limit: u128, value: u128, digits: &[char]) -> u128
+    requires room { limit ≤ 2 ^ 66 }
+    requires below { value ≤ limit }
+    ensures { result ≡ min limit (decimal_after value digits.now) }
+{
+    let mut value = value;
+    for c in digits {
+        value = (value * 10 + digit_value(*c)).min(limit);
+    }
+    value
+}
+
+fn digit_value(c: char) -> u128
+    ensures value { result ≡ c - 48 }
+    ensures small { result < 2 ^ 32 }
+{
+    (c as u32).saturating_sub(48) as u128
+}
+
+/// `value` with so many zeros behind it, up to a limit of 16 digits.
+pub fn with_zeros(limit: u128, value: u128, zeros: u128) -> u128
+    requires room { limit ≤ 10 ^ 15 }
+    requires below { value ≤ limit }
+    ensures { result ≡ min limit (value * 10 ^ zeros) }
+{
+    let mut value = value;
+    for _n in 0..zeros.min(15) {
+        value = (value * 10).min(limit);
+    }
+    value
+}
