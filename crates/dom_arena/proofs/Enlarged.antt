@@ -20,10 +20,10 @@ use Rattle.dom_arena.proofs.Writes.{slot_at-changed_other}
 use Rattle.dom_arena.proofs.Same.{Holds-same}
 use Rattle.dom_arena.proofs.Placed.{placed-other, length-placed, live-changed, live-placed}
 use Rattle.dom_arena.proofs.Held.{IsHeld, find-held}
-use Rattle.dom_arena.proofs.Found.{find-id}
+use Rattle.page_model.proofs.Members.{find-id}
 use Rattle.dom_arena.proofs.Readings.{table-kids}
 use Rattle.dom_arena.proofs.Rows.{length-rows, id_of-numbered}
-use Rattle.dom_arena.proofs.Numbered.{ids-numbered, count-within, distinct-numbered, node_count-numbered, find-numbered, height-numbered}
+use Rattle.page_model.proofs.Numbered.{ids-numbered, count-within, distinct-numbered, node_count-numbered, find-numbered, height-numbered}
 use Rattle.dom_arena.proofs.Loaded.{Holds-rows, live-within, tree_in-held}
 use Rattle.dom_arena.proofs.Grown.{among-drop, attached-list, parent-held, Holds-inserted}
 
@@ -61,7 +61,7 @@ may-insert parent at t d h =
       node = found.0;
       found = found.1;
       named = ap (λ o. is_some (option_and_then name_of o)) (sym found.1) ∙ is_some-not_none (name_at parent d.root) is_element.0;
-      within = subst (λ (o : Option Node). at ≤ unwrap_or (option_map (λ n. length (ids_of (kids_of n))) o) 0) found.1 (ltb-false (child_count parent d.root) at low.0);
+      within = subst (λ (o : Option Node). at ≤ length (unwrap_or (option_map (λ n. ids_of (kids_of n)) o) [])) found.1 (ltb-false (child_count parent d.root) at low.0);
       above = stands.0;
       level = stands.1;
       fit = subst (λ (o : Option ℕ). Fits (unwrap_or o 0) (node_count d.root) d.next_id t) stands.1 (fits (unwrap_or (level parent d.root) 0) (node_count d.root) d.next_id t low.1);

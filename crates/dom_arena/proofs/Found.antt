@@ -69,26 +69,3 @@ mutual
         | inl k ↦ found-head m ms (kids_of n) (find-kids i m n (distinct-left (ids m) (all_ids ms) d) k)
         | inr k ↦ found-rest m ms (kids_of n) d (find_in-kids i ms n (distinct-right (ids m) (all_ids ms) d) k.1)
       ]
-
--- ---- what is found has the number that was asked for
-
-mutual
-  pub find-id : (i : ℕ) (root n : Node) → find i root ≡ Some n → i ≡ id_of n
-  find-id i (element id name attributes kids) n h =
-      elim (if-found (i == id) (element id name attributes kids) n (find_in i kids) h) [
-        | inl e ↦ eqb-true i id e.0 ∙ ap id_of (same_Some _ _ e.1)
-        | inr k ↦ find_in-id i kids n k.1
-      ]
-  find-id i (text id cs) n h =
-      elim (if-found (i == id) (text id cs) n None h) [
-        | inl e ↦ eqb-true i id e.0 ∙ ap id_of (same_Some _ _ e.1)
-        | inr k ↦ absurd (none-some n k.1)
-      ]
-
-  find_in-id : (i : ℕ) (ns : Nodes) (n : Node) → find_in i ns ≡ Some n → i ≡ id_of n
-  find_in-id i no_nodes n h = absurd (none-some n h)
-  find_in-id i (node m ms) n h =
-      elim (or-found (find i m) (find_in i ms) n h) [
-        | inl k ↦ find-id i m n k
-        | inr k ↦ find_in-id i ms n k.1
-      ]

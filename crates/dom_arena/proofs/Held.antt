@@ -8,7 +8,7 @@ use Rattle.page_model.proofs.Members.{if-found, or-found}
 use Rattle.dom_arena.specs.declared.slot.Slot.{Slot}
 use Rattle.dom_arena.specs.declared.slot.Content.{Content}
 use Rattle.dom_arena.specs.Table.{slot_at, content_of, slot_of, Holds, HoldsAll, kids_at, preceding}
-use Rattle.dom_arena.proofs.Options.{is_some-or_else, is_some-if_some, or_or, IfSome-or_else, IfSome-if}
+use Rattle.page_model.proofs.Options.{is_some-or_else, is_some-if_some, or_or, IfSome-or_else, IfSome-if}
 
 -- ---- what is found
 

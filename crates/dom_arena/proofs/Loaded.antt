@@ -11,7 +11,7 @@ use Rattle.dom_arena.specs.declared.slot.Slot.{Slot}
 use Rattle.dom_arena.specs.Table.{slot_at, slot_of, Holds, HoldsAll, IsTable, below, node_of, tree_in}
 use Rattle.dom_arena.specs.Rows.{rows, all_rows}
 use Rattle.dom_arena.proofs.Rows.{length-rows, id_of-numbered}
-use Rattle.dom_arena.proofs.Numbered.{distinct-numbered, within-numbered, node_count-numbered, find-numbered, height-numbered, element-numbered}
+use Rattle.page_model.proofs.Numbered.{distinct-numbered, within-numbered, node_count-numbered, find-numbered, height-numbered, element-numbered}
 
 -- ---- a table that holds a tree reads as it
 

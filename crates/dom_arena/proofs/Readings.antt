@@ -44,12 +44,8 @@ kids-cases None (Some s) e = absurd (none-some _ (sym e))
 pub table-kids : (slots : List (Option Slot)) (root : Node) (i : ℕ) → IsTable slots root → kids_at slots i ≡ unwrap_or (option_map (λ n. ids_of (kids_of n)) (find i root)) []
 table-kids slots root i t = kids-cases (find i root) (slot_at slots i) (table-content slots root i t)
 
-count-found : (o : Option Node) → length (unwrap_or (option_map (λ n. ids_of (kids_of n)) o) []) ≡ unwrap_or (option_map (λ n. length (ids_of (kids_of n))) o) 0
-count-found None = refl
-count-found (Some n) = refl
-
 pub table-child_count : (slots : List (Option Slot)) (root : Node) (i : ℕ) → IsTable slots root → length (kids_at slots i) ≡ child_count i root
-table-child_count slots root i t = ap length (table-kids slots root i t) ∙ count-found (find i root)
+table-child_count slots root i t = ap length (table-kids slots root i t)
 
 first-found : (o : Option Node) → first (unwrap_or (option_map (λ n. ids_of (kids_of n)) o) []) ≡ option_and_then (λ n. first (ids_of (kids_of n))) o
 first-found None = refl

@@ -21,7 +21,7 @@ use Rattle.dom_arena.proofs.Placed.{placed-other, length-placed, live-changed, l
 use Rattle.dom_arena.proofs.Cleared.{cleared-other, cleared-here, length-cleared}
 use Rattle.dom_arena.proofs.Held.{IsHeld, IsChild, Holds-top, Holds-parent, find-held, parent-held_at, find-parent}
 use Rattle.dom_arena.proofs.Readings.{parentless}
-use Rattle.dom_arena.proofs.Found.{find-id}
+use Rattle.page_model.proofs.Members.{find-id}
 use Rattle.dom_arena.proofs.Loaded.{tree_in-held}
 use Rattle.dom_arena.proofs.Grown.{among-drop}
 use Rattle.dom_arena.proofs.Shrunk.{slice_get-among, detached-list, shrunk-held, Holds-removed}

@@ -4,7 +4,8 @@ ghost use Rattle.page_model.specs.Trees.{is_elem, size, depth};
 ghost use Rattle.page_model.specs.Limits.{max_nodes, max_depth, max_ids};
 ghost use Rattle.page_model.specs.Edits.{load_refusals, after_insert, insert_refusals, after_remove, remove_refusals, child_count, level};
 ghost use Rattle.dom_arena.specs.Faults.{AnswersBy, ChecksBy};
-ghost use Rattle.dom_arena.specs.Children.{child_ids, AreFound};
+ghost use Rattle.page_model.specs.Document.{child_ids};
+ghost use Rattle.dom_arena.specs.Children.{AreFound};
 ghost use Rattle.dom_arena.specs.Shape.{shape};
 
 use super::children::Children;

@@ -5,13 +5,14 @@ use Rattle.std.proofs.lemmas.Option.{same_Some, none-some}
 use Rattle.page_model.specs.Trees.{Tree, elem, characters, size}
 use Rattle.page_model.specs.Document.{Node, element, text, Nodes, no_nodes, node, Document, numbered, id_of, kids_of, ids_of, name_of, name_at, ids, all_ids, find, find_in, or_else, IsAmong, AreDistinct}
 use Rattle.page_model.specs.Edits.{with_one, inserted, all_inserted, after_insert}
-use Rattle.page_model.proofs.Members.{among-left, among-right, find_in-among, distinct-left, distinct-right, if-found, or-found}
+use Rattle.page_model.proofs.Members.{find-id, among-left, among-right, find_in-among, distinct-left, distinct-right, if-found, or-found}
 use Rattle.page_model.proofs.Inserted.{inserted-absent, all_inserted-absent, ids_of-inserted, unfound-absent, found-absent}
 use Rattle.page_model.proofs.Removed.{find-top}
 use Rattle.page_model.proofs.Spliced.{Spliced}
 use Rattle.model_laws.specs.Counting.{count_up}
 use Rattle.model_laws.specs.Numbering.{IsWellNumbered, HasRun}
-use Rattle.model_laws.specs.Children.{child_ids, with_number, alone}
+use Rattle.page_model.specs.Document.{child_ids}
+use Rattle.model_laws.specs.Children.{with_number, alone}
 use Rattle.model_laws.proofs.CountLemmas.{ids-numbered}
 use Rattle.model_laws.proofs.NumberingLemmas.{among-count_up, none-or-some, named-some, absent-none, some-among, spliced-named}
 
@@ -30,25 +31,6 @@ all_absent-none i ns out = elim (none-or-some (find_in i ns)) [
   | inl none ↦ none
   | inr some ↦ absurd (out (find_in-among i ns (ap is_some some.1)))
 ]
-
--- what is found has the number that was asked for
-mutual
-  pub find-id : (i : ℕ) (n x : Node) → find i n ≡ Some x → i ≡ id_of x
-  find-id i (element id name attributes kids) x h = elim (if-found (i == id) (element id name attributes kids) x (find_in i kids) h) [
-    | inl k ↦ eqb-true i id k.0 ∙ ap id_of (same_Some (element id name attributes kids) x k.1)
-    | inr k ↦ find_in-id i kids x k.1
-  ]
-  find-id i (text id cs) x h = elim (if-found (i == id) (text id cs) x None h) [
-    | inl k ↦ eqb-true i id k.0 ∙ ap id_of (same_Some (text id cs) x k.1)
-    | inr k ↦ absurd (none-some x k.1)
-  ]
-
-  find_in-id : (i : ℕ) (ns : Nodes) (x : Node) → find_in i ns ≡ Some x → i ≡ id_of x
-  find_in-id i no_nodes x h = absurd (none-some x h)
-  find_in-id i (node n ns) x h = elim (or-found (find i n) (find_in i ns) x h) [
-    | inl k ↦ find-id i n x k
-    | inr k ↦ find_in-id i ns x k.1
-  ]
 
 pub child_ids-found : (i : ℕ) (root x : Node) → find i root ≡ Some x → child_ids i root ≡ ids_of (kids_of x)
 child_ids-found i root x h = ap (λ (o : Option Node). unwrap_or (option_map (λ n. ids_of (kids_of n)) o) []) h

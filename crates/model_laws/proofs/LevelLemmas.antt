@@ -2,11 +2,12 @@
 use Rattle.std.proofs.Common.{◌≡◌, ℕ, zero, suc, ◌+◌, ◌<◌, ◌≤◌, ◌==◌, max, nat_lt, List, [], ◌∷◌, length, Bool, false, cond, Option, Some, None, option_map, option_and_then, unwrap_or, is_some, is_none, IsSome, refl, sym, ap, ap₂, ◌∙◌, subst, inl, inr, arith, eq-eqb, ne_eqb, lt-ltb, le-ltb, ltb-true, ltb-false}
 use Rattle.std.proofs.lemmas.Bool.{cases_Bool, false≢true}
 use Rattle.std.proofs.lemmas.Option.{same_Some, none-some}
-use Rattle.page_model.specs.Trees.{Tree, elem, characters, Trees, no_trees, tree, size, depth, depths}
-use Rattle.page_model.specs.Document.{Node, element, text, Nodes, no_nodes, node, Document, document, numbered, all_numbered, id_of, ids_of, name_of, name_at, ids, all_ids, find, find_in, parent_in, parent_below, parent_of, is_among, IsAmong, AreDistinct, height, heights, node_count}
+use Rattle.page_model.specs.Trees.{Tree, size, depth}
+use Rattle.page_model.specs.Document.{Node, element, text, Nodes, no_nodes, node, Document, document, numbered, id_of, ids_of, name_of, name_at, ids, all_ids, find, find_in, parent_in, parent_below, parent_of, is_among, IsAmong, AreDistinct, height, heights, node_count}
 use Rattle.page_model.specs.Limits.{max_depth, max_nodes, max_ids}
 use Rattle.page_model.specs.Refusals.{Refusal, Causes, first_of, no_node, not_element, bad_index, depth_limit, node_limit, id_limit}
 use Rattle.page_model.specs.Edits.{inserted, all_inserted, with_one, after_insert, level, level_in, child_count, tree_refusals, insert_refusals, load_refusals}
+use Rattle.page_model.proofs.Numbered.{height-numbered}
 use Rattle.page_model.proofs.Members.{among-left, among-right, among-kids, among-find, find-among, is_among-true, distinct-left, distinct-right, distinct-apart, if-found, or-found}
 use Rattle.page_model.proofs.Spliced.{Spliced, spliced-length}
 use Rattle.page_model.proofs.Levels.{level-found, level-element}
@@ -108,14 +109,6 @@ level-child root i p d h = elim (none-or-some (parent_in i root)) [
 
 -- ---- heights
 
-mutual
-  height-numbered : (n : ℕ) (t : Tree) → height (numbered n t) ≡ depth t
-  height-numbered n (elem name attributes kids) = ap suc (heights-numbered (suc n) kids)
-  height-numbered n (characters cs) = refl
-
-  heights-numbered : (n : ℕ) (ts : Trees) → heights (all_numbered n ts) ≡ depths ts
-  heights-numbered n no_trees = refl
-  heights-numbered n (tree t ts) = ap₂ (λ (a b : ℕ). max a b) (height-numbered n t) (heights-numbered (n + size t) ts)
 
 heights-with_one : (k : ℕ) (new : Node) (ns : Nodes) → heights (with_one k new ns) ≡ max (height new) (heights ns)
 heights-with_one zero new ns = refl

@@ -9,7 +9,8 @@ use Rattle.page_model.proofs.Spliced.{Spliced, spliced-among, part-apart}
 use Rattle.page_model.proofs.Inserted.{id_of-inserted}
 use Rattle.page_model.proofs.Removed.{id_of-removed, removed-absent, all_removed-absent, ids-removed}
 use Rattle.model_laws.specs.Numbering.{IsWellNumbered, HasRun}
-use Rattle.model_laws.specs.Children.{child_ids, without, alone}
+use Rattle.page_model.specs.Document.{child_ids}
+use Rattle.model_laws.specs.Children.{without, alone}
 use Rattle.model_laws.proofs.NumberingLemmas.{none-or-some, absent-none, among-kept, all_among-kept}
 use Rattle.model_laws.proofs.InsertLemmas.{child_ids-found, id_of-numbered}
 

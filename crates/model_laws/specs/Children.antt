@@ -1,11 +1,7 @@
 -- The children of a node, and the places among them.
-use Rattle.std.specs.Prelude.{ℕ, ◌≤◌, ◌==◌, List, [], ◌∷◌, ◌++◌, take, drop, if◌then◌else◌, IsSome, option_map, unwrap_or}
-use Rattle.page_model.specs.Document.{Node, element, text, no_nodes, kids_of, ids_of, find, name_at, Document}
+use Rattle.std.specs.Prelude.{ℕ, ◌≤◌, ◌==◌, List, [], ◌∷◌, ◌++◌, take, drop, if◌then◌else◌, IsSome}
+use Rattle.page_model.specs.Document.{Node, element, text, no_nodes, name_at, Document}
 use Rattle.page_model.specs.Edits.{child_count}
-
--- the numbers of the children of the node with this number, or none where there is no such node
-abbrev pub child_ids : ℕ → Node → List ℕ
-child_ids i root = unwrap_or (option_map (λ n. ids_of (kids_of n)) (find i root)) []
 
 -- the node of this number is an element, and has so many children at least: a new one can come behind so many
 abbrev pub IsPlace : ℕ → ℕ → Document → Type 0

@@ -6,7 +6,8 @@ ghost use Rattle.page_model.specs.Edits.{after_insert, after_remove, level, inse
 ghost use Rattle.page_model.specs.Refusals.{first_of};
 ghost use Rattle.model_laws.specs.Counting.{count_up};
 ghost use Rattle.model_laws.specs.Numbering.{IsWellNumbered, HasRun};
-ghost use Rattle.model_laws.specs.Children.{child_ids, IsPlace, with_number, without, alone};
+ghost use Rattle.page_model.specs.Document.{child_ids};
+ghost use Rattle.model_laws.specs.Children.{IsPlace, with_number, without, alone};
 ghost use Rattle.model_laws.specs.Bounds.{excess};
 
 /// No two nodes have the same number, after a load and each edit, and the number of a node that is gone is not given again.

@@ -1,5 +1,5 @@
 -- Lists of numbers without one that stands twice, and the numbers of what is found.
-use Rattle.std.proofs.Common.{◌≡◌, ◌⊎◌, ℕ, ◌==◌, ◌||◌, List, [], ◌∷◌, ◌++◌, Bool, true, false, cond, Option, Some, None, is_some, refl, sym, subst, inl, inr, eq-eqb}
+use Rattle.std.proofs.Common.{◌≡◌, ◌⊎◌, ℕ, ◌==◌, ◌||◌, List, [], ◌∷◌, ◌++◌, Bool, true, false, cond, Option, Some, None, is_some, refl, sym, ap, ◌∙◌, subst, inl, inr, eq-eqb}
 use Rattle.std.proofs.lemmas.Bool.{cases_Bool, eqb-true, false≢true}
 use Rattle.std.proofs.lemmas.Option.{same_Some, none-some}
 use Rattle.page_model.specs.Document.{Node, element, text, Nodes, no_nodes, node, id_of, ids_of, ids, all_ids, find, find_in, or_else, IsAmong, AreDistinct, is_among}
@@ -165,3 +165,26 @@ mutual
     | inl e ↦ find-distinct i n p e (distinct-left (ids n) (all_ids ns) d)
     | inr e ↦ find_in-distinct i ns p e.1 (distinct-right (ids n) (all_ids ns) d)
   ]
+
+-- ---- what is found has the number that was asked for
+
+mutual
+  pub find-id : (i : ℕ) (root n : Node) → find i root ≡ Some n → i ≡ id_of n
+  find-id i (element id name attributes kids) n h =
+      elim (if-found (i == id) (element id name attributes kids) n (find_in i kids) h) [
+        | inl e ↦ eqb-true i id e.0 ∙ ap id_of (same_Some _ _ e.1)
+        | inr k ↦ find_in-id i kids n k.1
+      ]
+  find-id i (text id cs) n h =
+      elim (if-found (i == id) (text id cs) n None h) [
+        | inl e ↦ eqb-true i id e.0 ∙ ap id_of (same_Some _ _ e.1)
+        | inr k ↦ absurd (none-some n k.1)
+      ]
+
+  find_in-id : (i : ℕ) (ns : Nodes) (n : Node) → find_in i ns ≡ Some n → i ≡ id_of n
+  find_in-id i no_nodes n h = absurd (none-some n h)
+  find_in-id i (node m ms) n h =
+      elim (or-found (find i m) (find_in i ms) n h) [
+        | inl k ↦ find-id i m n k
+        | inr k ↦ find_in-id i ms n k.1
+      ]

@@ -1,5 +1,5 @@
 -- The document: a tree of elements and texts, each with a number of its own.
-use Rattle.std.specs.Prelude.{◌≡◌, ◌⊎◌, ℕ, suc, max, length, ◌+◌, ◌==◌, ◌||◌, List, [], ◌∷◌, ◌++◌, Bool, false, if◌then◌else◌, Option, Some, None, option_and_then}
+use Rattle.std.specs.Prelude.{◌≡◌, ◌⊎◌, ℕ, suc, max, length, ◌+◌, ◌==◌, ◌||◌, List, [], ◌∷◌, ◌++◌, Bool, false, if◌then◌else◌, Option, Some, None, option_and_then, option_map, unwrap_or}
 use Rattle.page_model.specs.Trees.{Text, Attribute, Tree, elem, characters, Trees, no_trees, tree, size}
 
 mutual
@@ -134,6 +134,10 @@ parent_of i root = option_and_then (λ p. Some (id_of p)) (parent_in i root)
 
 abbrev pub name_at : ℕ → Node → Option Text
 name_at i root = option_and_then name_of (find i root)
+
+-- the numbers of the children of the node with this number, or none where there is no such node
+abbrev pub child_ids : ℕ → Node → List ℕ
+child_ids i root = unwrap_or (option_map (λ n. ids_of (kids_of n)) (find i root)) []
 
 -- how many nodes there are
 abbrev pub node_count : Node → ℕ

@@ -1,7 +1,7 @@
 -- The document after an edit, and why an edit is refused.
 use Rattle.std.specs.Prelude.{ℕ, zero, suc, ◌+◌, ◌==◌, length, [], ◌∷◌, nat_lt, if◌then◌else◌, Option, Some, None, is_none, option_map, unwrap_or}
 use Rattle.page_model.specs.Trees.{Tree, size, depth}
-use Rattle.page_model.specs.Document.{Node, element, text, Nodes, no_nodes, node, Document, numbered, id_of, ids_of, kids_of, find, name_at, or_else, node_count}
+use Rattle.page_model.specs.Document.{Node, element, text, Nodes, no_nodes, node, Document, numbered, id_of, child_ids, find, name_at, or_else, node_count}
 use Rattle.page_model.specs.Limits.{max_nodes, max_depth, max_ids}
 use Rattle.page_model.specs.Refusals.{Causes, no_node, not_element, is_root, bad_index, depth_limit, node_limit, id_limit}
 
@@ -58,7 +58,7 @@ abbrev mutual
 
 -- how many children the node of this number has
 abbrev pub child_count : ℕ → Node → ℕ
-child_count i root = unwrap_or (option_map (λ n. length (ids_of (kids_of n))) (find i root)) 0
+child_count i root = length (child_ids i root)
 
 -- why a new tree is refused below a node of this level, where so many nodes live and so many numbers were given since the load
 abbrev pub tree_refusals : ℕ → ℕ → ℕ → Tree → Causes

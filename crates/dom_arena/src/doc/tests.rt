@@ -2,7 +2,7 @@ ghost use Rattle.std.specs.Prelude.{◌≡◌, true, ◌+◌, ◌≤◌, ◌<◌
 ghost use Rattle.std.specs.Str.{chars};
 ghost use Rattle.page_model.specs.Trees.{is_elem, elem, characters, trees_of, size, sizes, depth, depths};
 ghost use Rattle.dom_arena.specs.Shape.{shape};
-ghost use Rattle.dom_arena.specs.Children.{child_ids};
+ghost use Rattle.page_model.specs.Document.{child_ids};
 
 use super::Doc;
 use crate::fault::DocFault;

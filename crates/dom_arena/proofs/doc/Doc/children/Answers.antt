@@ -1,6 +1,7 @@
 use Rattle.std.proofs.Common.{◌≡◌, Some, subst, rules}
 use Rattle.page_model.specs.Document.{Document, Node, find, kids_of}
-use Rattle.dom_arena.specs.Children.{child_ids, AreFound}
+use Rattle.page_model.specs.Document.{child_ids}
+use Rattle.dom_arena.specs.Children.{AreFound}
 use Rattle.dom_arena.specs.Table.{kids_at, tree_in}
 use Rattle.dom_arena.proofs.Readings.{table-kids}
 use Rattle.dom_arena.proofs.Found.{find-kids}

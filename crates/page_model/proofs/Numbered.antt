@@ -3,7 +3,7 @@ use Rattle.std.proofs.Common.{◌≡◌, ℕ, zero, suc, ◌+◌, ◌<◌, ◌�
 use Rattle.std.proofs.lemmas.Bool.{cases_Bool, cases_lt, eqb-false, false≢true}
 use Rattle.page_model.specs.Trees.{Tree, Trees, no_trees, tree, elem, characters, is_elem, size, sizes, depth, depths}
 use Rattle.page_model.specs.Document.{numbered, all_numbered, ids, all_ids, find, find_in, name_of, height, heights, IsAmong, AreDistinct}
-use Rattle.dom_arena.proofs.Options.{is_some-or_else}
+use Rattle.page_model.proofs.Options.{is_some-or_else}
 
 -- k numbers from n on
 abbrev pub count : ℕ → ℕ → List ℕ
