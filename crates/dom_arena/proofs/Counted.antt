@@ -81,4 +81,3 @@ table-level slots root i t f = level-cases slots root i (level i root) refl (lev
 
 pub table-level-low : (slots : List (Option Slot)) (root : Node) (i : ℕ) → IsTable slots root → unwrap_or (level i root) 0 ≤ max_depth
 table-level-low slots root i t = low-cases i root (level i root) refl t.low
-

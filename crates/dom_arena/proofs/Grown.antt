@@ -118,12 +118,12 @@ mutual
         let rest : all_inserted parent at new ns ≡ ns = all_inserted-absent parent at new ns (found-absent parent n p ns d k) in (
           Holds-inserted slots slots' (Some up) place parent at new n p (distinct-left (ids n) (all_ids ns) d) k (λ j a b. same j (among-left j (ids n) (all_ids ns) a) b) here h.0,
           rw rest (HoldsAll-same slots slots' up (suc place) ns
-          (λ j a. same j (among-right j (ids n) (all_ids ns) a) (λ b. distinct-apart j (ids n) (all_ids ns) d (find-part parent n p j k b) a)) h.1),
+              (λ j a. same j (among-right j (ids n) (all_ids ns) a) (λ b. distinct-apart j (ids n) (all_ids ns) d (find-part parent n p j k b) a)) h.1),
         )
     | inr k ↦
         let first : inserted parent at new n ≡ n = inserted-absent parent at new n (unfound-absent parent n k.0) in (
           rw first (Holds-same slots slots' (Some up) place n
-          (λ j a. same j (among-left j (ids n) (all_ids ns) a) (λ b. distinct-apart j (ids n) (all_ids ns) d a (find_in-part parent ns p j k.1 b))) h.0),
+              (λ j a. same j (among-left j (ids n) (all_ids ns) a) (λ b. distinct-apart j (ids n) (all_ids ns) d a (find_in-part parent ns p j k.1 b))) h.0),
           HoldsAll-inserted slots slots' up (suc place) parent at new ns p (distinct-right (ids n) (all_ids ns) d) k.1 (λ j a b. same j (among-right j (ids n) (all_ids ns) a) b) here h.1,
         )
   ]

@@ -4,7 +4,7 @@ use Rattle.std.specs.List.{slice_get}
 use Rattle.std.proofs.lemmas.Bool.{cases_Bool, false≢true}
 use Rattle.std.proofs.lemmas.List.{drop_all, take_all}
 use Rattle.std.proofs.lemmas.Option.{same_Some, none-some, slice_get_within}
-use Rattle.page_model.specs.Document.{Node, element, text, id_of, kids_of, ids_of, ids, all_ids, find, parent_in, height, node_count, IsAmong, AreDistinct}
+use Rattle.page_model.specs.Document.{Document, Node, element, text, id_of, kids_of, ids_of, ids, all_ids, find, parent_in, height, node_count, IsAmong, AreDistinct}
 use Rattle.page_model.specs.Edits.{removed}
 use Rattle.page_model.specs.Limits.{max_depth}
 use Rattle.page_model.proofs.Members.{among-top, among-find, find-among, find-part, find-distinct, among-kids, some-is}
@@ -219,6 +219,13 @@ detachable slots cut root i up at table may is =
     let same : kids_at cut up ≡ ids_of (kids_of may.above) = ap (λ s. kids_at s up) is ∙ (ap kids_of_slot (cleared-other (ids may.node) slots up out) ∙ may.kids) in
     let within : at < length (ids_of (kids_of may.above)) = slice_get_within (ids_of (kids_of may.above)) at i may.stands in
     let many : length (kids_at cut up) ≡ length (ids_of (kids_of may.above)) = ap length same in (omega (arith, low, long), omega (arith, within, many))
+
+-- a live node whose slot names a parent can go
+pub may-remove_here : (slots read : List (Option Slot)) (d : Document) (i up at : ℕ) (o : Option (ℕ × ℕ)) → IsTable slots (tree_in slots) → ◌≡◌ {A = Document} (record { root = tree_in slots; next_id = length slots }) d
+    → is_some (find i d.root) ≡ true → read ≡ slots → o ≡ spot_in (slot_at read i) → o ≡ Some (up, at) → (spot_in (slot_at slots i) ≡ Some (up, at)) × MayRemove i up at slots (tree_in slots)
+may-remove_here slots read d i up at o table view live is spot some =
+    let found : is_some (find i (tree_in slots)) ≡ true = subst (λ (e : Document). is_some (find i e.root) ≡ true) (sym view) live in
+    let named : spot_in (slot_at slots i) ≡ Some (up, at) = sym (spot ∙ ap (λ s. spot_in (slot_at s i)) is) ∙ some in (named, may-remove slots (tree_in slots) i up at table found named)
 
 -- the fields of the document after a remove
 pub record IsReduced (i : ℕ) (slots slots' : List (Option Slot)) (count : ℕ) : Type 0 where

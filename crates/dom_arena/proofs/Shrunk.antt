@@ -124,10 +124,10 @@ mutual
     | inl k ↦
         subst (λ (m : Node). Holds slots up place m → Holds slots' up place (removed i m)) (sym (same_Some (element id name attributes kids) p k.1)) (here up place) h
     | inr k ↦ (
-        same id (inl refl) (λ b. d.0 (parent_below-part i kids p id k.1 b))
-            ∙ (h.0 ∙ ap (λ ks. Some (record { parent = up; place = place; content = Element name attributes ks })) (sym (ids_of-kept i kids k.0))),
-        HoldsAll-removed slots slots' id 0 i kids p d.1 k.1 k.0 (λ j a b. same j (inr a) b) here h.1,
-      )
+      same id (inl refl) (λ b. d.0 (parent_below-part i kids p id k.1 b))
+          ∙ (h.0 ∙ ap (λ ks. Some (record { parent = up; place = place; content = Element name attributes ks })) (sym (ids_of-kept i kids k.0))),
+      HoldsAll-removed slots slots' id 0 i kids p d.1 k.1 k.0 (λ j a b. same j (inr a) b) here h.1,
+    )
   ]
   Holds-removed slots slots' up place i (text id cs) p d f same here h = absurd (none-some p f)
 
@@ -143,12 +143,12 @@ mutual
             let rest : all_removed i ns ≡ ns = all_removed-absent i ns (distinct-apart i (ids n) (all_ids ns) d (parent-among i n p k)) in (
               Holds-removed slots slots' (Some up) place i n p (distinct-left (ids n) (all_ids ns) d) k (λ j a b. same j (among-left j (ids n) (all_ids ns) a) b) here h.0,
               rw rest (HoldsAll-same slots slots' up (suc place) ns
-              (λ j a. same j (among-right j (ids n) (all_ids ns) a) (λ b. distinct-apart j (ids n) (all_ids ns) d (parent-part i n p j k b) a)) h.1),
+                  (λ j a. same j (among-right j (ids n) (all_ids ns) a) (λ b. distinct-apart j (ids n) (all_ids ns) d (parent-part i n p j k b) a)) h.1),
             )
         | inr k ↦
             let first : removed i n ≡ n = removed-absent i n (λ b. distinct-apart i (ids n) (all_ids ns) d b (parent_below-among i ns p k.1)) in (
               rw first (Holds-same slots slots' (Some up) place n
-              (λ j a. same j (among-left j (ids n) (all_ids ns) a) (λ b. distinct-apart j (ids n) (all_ids ns) d a (parent_below-part i ns p j k.1 b))) h.0),
+                  (λ j a. same j (among-left j (ids n) (all_ids ns) a) (λ b. distinct-apart j (ids n) (all_ids ns) d a (parent_below-part i ns p j k.1 b))) h.0),
               HoldsAll-removed slots slots' up (suc place) i ns p (distinct-right (ids n) (all_ids ns) d) k.1 apart.1 (λ j a b. same j (among-right j (ids n) (all_ids ns) a) b) here h.1,
             )
       ])

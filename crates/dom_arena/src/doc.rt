@@ -10,9 +10,9 @@ ghost use Rattle.dom_arena.specs.Shape.{shape};
 
 use super::children::Children;
 use super::fault::DocFault;
+use super::limits::MAX_DEPTH;
 use super::slot::Slot;
 use super::tree::Tree;
-use super::limits::MAX_DEPTH;
 use super::{copies, edits, limits, table};
 use port_core::NodeId;
 use std::alloc::Global;
@@ -52,7 +52,7 @@ impl Model for Doc {
 impl Doc {
     /// The document of a tree, whose nodes get the numbers from 0 on in document order.
     ///
-    /// Refused with `DepthLimit` where a node stands deeper than 96, and with `NodeLimit` where there are more than 20,000 nodes. Its time is linear in the number of nodes, and its recursion as deep as the tree; a tree that is refused is read as far as the limits.
+    /// Refused with `DepthLimit` where a node stands deeper than 96, and with `NodeLimit` where there are more than 20,000 nodes. Its time is linear in the number of nodes, also where it refuses, and its recursion at most 97 deep.
     pub fn new(alloc: Global, tree: &Tree) -> Result<Doc, DocFault>
         requires element { is_elem (shape tree.now) ≡ true }
         ensures document { IfOk result (λ doc. doc ≡ document (shape tree.now)) }
@@ -142,12 +142,7 @@ impl Doc {
     /// Puts a new tree among the children of an element, with so many of them before it, and answers its number. The new nodes get the next numbers, in document order.
     ///
     /// Refused with `NoNode`, `NotElement`, `BadIndex` where the element has fewer children than that, `DepthLimit`, `NodeLimit` or `IdLimit`, by the first that holds; then, and where memory runs out, nothing is changed. Its time is linear in the number of the parent's children and of new nodes.
-    pub fn insert(
-        &mut self,
-        parent: NodeId,
-        index: usize,
-        tree: &Tree,
-    ) -> Result<NodeId, DocFault>
+    pub fn insert(&mut self, parent: NodeId, index: usize, tree: &Tree) -> Result<NodeId, DocFault>
         ensures inserted { OnOk result (self.new ≡ after_insert parent index (shape tree.now) self.old) }
         ensures number { IfOk result (λ id. id ≡ self.old.next_id) }
         ensures causes { AnswersBy (insert_refusals parent index (shape tree.now) self.old) result }

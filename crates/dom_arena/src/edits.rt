@@ -39,10 +39,12 @@ fn put_kid(slot: &mut Option<Slot>, at: usize, id: NodeId) -> Result<(), NoMemor
     ensures kept { OnErr result (slot.new ≡ slot.old) }
 {
     match slot {
-        Some(Slot {
-            content: Content::Element(_, _, kids),
-            ..
-        }) => put(kids, at, id),
+        Some(
+            Slot {
+                content: Content::Element(_, _, kids),
+                ..
+            },
+        ) => put(kids, at, id),
         _ => Ok(()),
     }
 }
@@ -52,10 +54,12 @@ fn take_kid(slot: &mut Option<Slot>, at: usize)
     requires within { at < length (kids_of_slot slot.old) }
     ensures { slot.new ≡ option_map (without_kid at) slot.old }
 {
-    if let Some(Slot {
-        content: Content::Element(_, _, kids),
-        ..
-    }) = slot
+    if let Some(
+        Slot {
+            content: Content::Element(_, _, kids),
+            ..
+        },
+    ) = slot
     {
         kids.remove(at);
     }

@@ -30,8 +30,7 @@ fn two(alloc: Global, first: Tree, second: Tree) -> Result<Seq<Tree>, NoMemory> 
 }
 
 /// A list of two items, of which the first holds two texts.
-fn list(alloc: Global) -> Result<Tree, NoMemory>
-{
+fn list(alloc: Global) -> Result<Tree, NoMemory> {
     let texts = two(alloc, text(alloc, "x")?, text(alloc, "y")?)?;
     let first = element(alloc, "item", texts)?;
     let second = element(alloc, "item", Seq::new(alloc))?;
@@ -205,7 +204,7 @@ fn how_many_nodes_a_tree_has(rt: HostRuntime) -> Result<(), Fail> {
 }
 
 #[test]
-fn insert_and_remove(rt: HostRuntime) -> Result<(), Fail> {
+fn inserted_trees(rt: HostRuntime) -> Result<(), Fail> {
     let mut doc = Doc::new(rt.alloc(), &page(rt.alloc())?)?;
     let item = chain(rt.alloc(), 2)?;
     // In the middle, at the front, at the end, and in an empty element.
@@ -215,48 +214,70 @@ fn insert_and_remove(rt: HostRuntime) -> Result<(), Fail> {
     assert_eq!(rt; doc.next_id(), 15);
     expect_children(&rt, rt.alloc(), &doc, 0, &[1, 6, 11])?;
     expect_children(&rt, rt.alloc(), &doc, 1, &[9, 2, 7, 5])?;
-    expect_children(&rt, rt.alloc(), &doc, 5, &[13])?;
-    expect_node(&rt, &doc, 7, Some("div"), [Some(1), Some(8), Some(5), Some(2)]);
-    expect_node(&rt, &doc, 5, Some("item"), [Some(1), Some(13), None, Some(7)]);
-    // A text, an element with what stands below it, and the last child.
-    for id in [3, 2, 11] {
-        expect_remove(&rt, &mut doc, id, Ok(()));
-    }
-    for id in [2, 3, 4, 11, 12] {
-        assert!(rt; !doc.is_live(id));
-    }
-    expect_children(&rt, rt.alloc(), &doc, 0, &[1, 6])?;
-    expect_children(&rt, rt.alloc(), &doc, 1, &[9, 7, 5])?;
-    expect_node(&rt, &doc, 9, Some("div"), [Some(1), Some(10), Some(7), None]);
-    expect_node(&rt, &doc, 7, Some("div"), [Some(1), Some(8), Some(5), Some(9)]);
-    expect_insert(&rt, &mut doc, 1, 3, &item, Ok(15));
-    expect_node(&rt, &doc, 15, Some("div"), [Some(1), Some(16), None, Some(5)]);
+    expect_node(
+        &rt,
+        &doc,
+        7,
+        Some("div"),
+        [Some(1), Some(8), Some(5), Some(2)],
+    );
+    expect_node(
+        &rt,
+        &doc,
+        5,
+        Some("item"),
+        [Some(1), Some(13), None, Some(7)],
+    );
     Ok(())
 }
 
 #[test]
-fn refused_edits(rt: HostRuntime) -> Result<(), Fail> {
+fn removed_nodes(rt: HostRuntime) -> Result<(), Fail> {
+    let mut doc = Doc::new(rt.alloc(), &page(rt.alloc())?)?;
+    // A text, and an element with what stands below it.
+    for id in [3, 2] {
+        expect_remove(&rt, &mut doc, id, Ok(()));
+    }
+    for id in [2, 3, 4] {
+        assert!(rt; !doc.is_live(id));
+    }
+    expect_children(&rt, rt.alloc(), &doc, 1, &[5])?;
+    expect_node(&rt, &doc, 5, Some("item"), [Some(1), None, None, None]);
+    let item = chain(rt.alloc(), 2)?;
+    expect_insert(&rt, &mut doc, 1, 1, &item, Ok(7));
+    expect_node(&rt, &doc, 7, Some("div"), [Some(1), Some(8), None, Some(5)]);
+    Ok(())
+}
+
+#[test]
+fn refused_inserts(rt: HostRuntime) -> Result<(), Fail> {
     let mut doc = Doc::new(rt.alloc(), &page(rt.alloc())?)?;
     let item = chain(rt.alloc(), 1)?;
-    expect_remove(&rt, &mut doc, 4, Ok(()));
     for (parent, index, fault) in [
         (7, 9, DocFault::NoNode),
-        (4, 0, DocFault::NoNode),
         (3, 9, DocFault::NotElement),
-        (2, 2, DocFault::BadIndex),
+        (2, 3, DocFault::BadIndex),
         (5, usize::MAX, DocFault::BadIndex),
     ] {
         expect_insert(&rt, &mut doc, parent, index, &item, Err(fault));
     }
+    expect_children(&rt, rt.alloc(), &doc, 2, &[3, 4])?;
+    assert_eq!(rt; doc.next_id(), 7);
+    Ok(())
+}
+
+#[test]
+fn refused_removes(rt: HostRuntime) -> Result<(), Fail> {
+    let mut doc = Doc::new(rt.alloc(), &page(rt.alloc())?)?;
+    expect_remove(&rt, &mut doc, 2, Ok(()));
     for (id, fault) in [
         (7, DocFault::NoNode),
+        (2, DocFault::NoNode),
         (4, DocFault::NoNode),
         (0, DocFault::IsRoot),
     ] {
         expect_remove(&rt, &mut doc, id, Err(fault));
     }
-    expect_children(&rt, rt.alloc(), &doc, 2, &[3])?;
-    assert_eq!(rt; doc.next_id(), 7);
     Ok(())
 }
 
