@@ -1,5 +1,5 @@
 -- The tokens of the definition that tokens and lists of them are.
-use Rattle.std.specs.Prelude.{ℕ, List, map, Option, Some, None, Bool, false}
+use Rattle.std.specs.Prelude.{List, map, Option, Some, None, Bool, false}
 use Rattle.css_model.specs.Tokens as model
 use Rattle.css_tokens.specs.declared.token.Bracket.{Bracket}
 use Rattle.css_tokens.specs.declared.token.Bracket.TheVariants.{Round, Square, Curly}

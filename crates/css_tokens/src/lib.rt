@@ -18,6 +18,8 @@ mod reading;
 mod runs;
 mod spans;
 mod strings;
+#[cfg(test)]
+mod tests;
 mod token;
 mod tokenizer;
 mod urls;

@@ -1,4 +1,4 @@
-use Rattle.std.proofs.Common.{rules, arith, ◌≡◌, ◌≤◌, ◌<◌, ◌^◌, ◌+◌, ◌∙◌, ap, sym, length, length-append}
+use Rattle.std.proofs.Common.{rules, arith, ◌≡◌, ◌<◌, ◌^◌, ◌+◌, ◌∙◌, ap, sym, length, length-append}
 use Rattle.std.specs.List.{list_all}
 use Rattle.css_model.specs.Classes.{is_digit}
 use Rattle.css_model.specs.Numerals.{numeral_text}
