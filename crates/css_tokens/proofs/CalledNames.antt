@@ -1,15 +1,14 @@
 -- The token that a name begins, by what stands behind it.
-use Rattle.std.proofs.Common.{◌≡◌, ◌∙◌, ap, refl, sym, ℕ, suc, ◌+◌, ◌==◌, ◌&&◌, ◌≤◌, List, [], ◌∷◌, ◌++◌, length, drop, drop-drop, length-drop, length-append, flat_map, not, Bool, true, false, arith}
-use Rattle.std.specs.Prelude.{codes, if◌then◌else◌}
+use Rattle.std.proofs.Common.{◌≡◌, ◌∙◌, ap, refl, sym, ℕ, ◌+◌, ◌==◌, ◌&&◌, List, [], ◌∷◌, ◌++◌, length, drop, drop-drop, length-append, flat_map, not, Bool, true, false}
+use Rattle.std.specs.Prelude.{codes}
 use Rattle.std.proofs.lemmas.Bool.{false≢true}
 use Rattle.css_model.specs.Classes.{Text, open_round, begins}
-use Rattle.css_model.specs.Tokens.{ident, function}
+use Rattle.css_model.specs.Tokens.{function}
 use Rattle.css_model.specs.Parts.{Part, parts_text, meaning, in_name}
 use Rattle.css_model.specs.Fronts.{parts_in, behind_parts}
 use Rattle.css_model.specs.Spellings.{is_url_name, quote_follows}
-use Rattle.css_model.specs.TokenList.{Piece, token}
+use Rattle.css_model.specs.TokenList.{token}
 use Rattle.css_model.specs.Pieces.{url_piece, name_piece}
-use Rattle.css_model.proofs.Tests.{pick-true, pick-false}
 
 abbrev pub opens : Text → Bool
 opens cs = begins (λ c. c == open_round) cs

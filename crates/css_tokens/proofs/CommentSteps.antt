@@ -1,5 +1,5 @@
 -- The inside of a comment, character by character.
-use Rattle.std.proofs.Common.{◌≡◌, ◌∙◌, ap, refl, sym, ℕ, suc, ◌+◌, ◌<◌, length, get_or, drop, drop-cons, add-one, [], ◌∷◌, Bool, true, false}
+use Rattle.std.proofs.Common.{◌≡◌, ◌∙◌, ap, refl, sym, ℕ, suc, ◌+◌, ◌<◌, length, get_or, drop, drop-cons, add-one, [], ◌∷◌, true, false}
 use Rattle.std.specs.Prelude.{codes}
 use Rattle.css_model.specs.Classes.{Text}
 use Rattle.css_model.specs.Pieces.{has_front, comment_inside}

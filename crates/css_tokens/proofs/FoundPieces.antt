@@ -1,5 +1,5 @@
 -- The pieces of a text, by the one that was found in front.
-use Rattle.std.proofs.Common.{◌≡◌, ◌∙◌, ap, ap₂, refl, sym, subst, ℕ, zero, suc, pred, ◌+◌, ◌<◌, ◌≤◌, List, [], ◌∷◌, ◌++◌, length, take, drop, drop-drop, length-append, length-drop, append_assoc, Option, Some, None, option_map, arith}
+use Rattle.std.proofs.Common.{◌≡◌, ◌∙◌, ap, refl, sym, subst, ℕ, zero, suc, pred, ◌+◌, ◌<◌, ◌≤◌, List, [], ◌∷◌, ◌++◌, length, take, drop, drop-drop, length-append, length-drop, append_assoc, Option, option_map, arith}
 use Rattle.std.proofs.lemmas.List.{drop_all}
 use Rattle.std.specs.Prelude.{Result, Ok, Err, IfOk}
 use Rattle.std.specs.Str.{chars}
@@ -16,7 +16,7 @@ use Rattle.css_model.proofs.NumberPieces.{numbers-first, tokens-are-tokens}
 use Rattle.css_tokens.specs.declared.piece.Piece.{Piece}
 use Rattle.css_tokens.specs.Views.{kind_view, tokens_view}
 use Rattle.css_tokens.specs.declared.token.Token.{Token as Found}
-use Rattle.css_tokens.specs.Found.{class_of, IsFound, IsFront, token_of, tokens_of_class}
+use Rattle.css_tokens.specs.Found.{class_of, IsFront, tokens_of_class}
 
 is-first : (c : ℕ) (cs : Text) → IsFirst (first_piece c cs) (c ∷ cs)
 is-first c cs = pieces-first numbers-first c cs

@@ -1,7 +1,7 @@
 -- What is kept of a part tells all that is asked of it.
-use Rattle.std.proofs.Common.{◌≡◌, ◌∙◌, sym, ap, refl, subst, ℕ, zero, suc, pred, ◌+◌, ◌-◌, ◌≤◌, List, [], ◌∷◌, ◌++◌, length, drop, drop-drop, length-drop, length-append, flat_map, Option, Some, None, Bool, true, false, arith, inl, inr}
+use Rattle.std.proofs.Common.{◌≡◌, ◌∙◌, sym, ap, refl, ℕ, zero, suc, pred, ◌+◌, ◌-◌, ◌≤◌, List, [], ◌∷◌, ◌++◌, length, drop, drop-drop, length-drop, length-append, flat_map, Some, None, true, false, arith, inl, inr}
 use Rattle.std.proofs.lemmas.Bool.{cases_Bool}
-use Rattle.std.specs.Prelude.{if◌then◌else◌, unwrap_or, ◌||◌, ◌&&◌}
+use Rattle.std.specs.Prelude.{unwrap_or, ◌||◌, ◌&&◌}
 use Rattle.css_model.specs.Classes.{Text}
 use Rattle.css_model.specs.Parts as model
 use Rattle.css_model.specs.Parts.{part_text, parts_text}

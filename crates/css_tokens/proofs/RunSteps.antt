@@ -1,6 +1,6 @@
 -- The run of characters of one class in front of a text, character by character.
 use Rattle.std.proofs.Math.Seq.{take-append_seam}
-use Rattle.std.proofs.Common.{◌≡◌, ◌∙◌, sym, ap, ℕ, suc, ◌+◌, ◌<◌, length, get_or, take, drop, drop-cons, add-one, Bool, true, false, arith, refl}
+use Rattle.std.proofs.Common.{◌≡◌, ◌∙◌, sym, ap, ℕ, suc, ◌+◌, ◌<◌, length, get_or, take, drop, drop-cons, add-one, Bool, true, false, refl}
 use Rattle.css_model.specs.Classes.{Text}
 use Rattle.css_model.specs.Fronts.{run_in, one_in}
 use Rattle.css_model.proofs.Runs.{runs}

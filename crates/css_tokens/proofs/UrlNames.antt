@@ -1,9 +1,9 @@
 -- The name of urls, as characters and in UTF-8; and the quote that follows it.
-use Rattle.std.proofs.Common.{◌≡◌, ◌∙◌, ap, refl, sym, subst, ℕ, ◌+◌, ◌<◌, ◌≤◌, List, [], ◌∷◌, length, get_or, drop, map, encode_utf8_all, Bool, true, false, ◌||◌, ◌&&◌, ◌==◌, eqb-true, arith, inl, inr}
-use Rattle.std.specs.Prelude.{codes, nat_lt, ◌↔◌, IsTrue}
+use Rattle.std.proofs.Common.{◌≡◌, ◌∙◌, ap, refl, sym, subst, ℕ, ◌<◌, ◌≤◌, List, [], ◌∷◌, length, get_or, drop, map, encode_utf8_all, Bool, true, false, ◌||◌, ◌&&◌, ◌==◌, eqb-true, arith, inl, inr}
+use Rattle.std.specs.Prelude.{codes, ◌↔◌, IsTrue}
 use Rattle.std.specs.Char.{to_ascii_lowercase}
-use Rattle.std.specs.Str.{chars, IsAscii, str_eq_ignore_ascii_case, str_to_ascii_lowercase}
-use Rattle.std.proofs.lemmas.Bool.{cases_Bool, false≢true}
+use Rattle.std.specs.Str.{chars, IsAscii, str_to_ascii_lowercase}
+use Rattle.std.proofs.lemmas.Bool.{cases_Bool}
 use Rattle.std.proofs.lemmas.Bool.Decides.{nat_tests}
 use Rattle.std.proofs.lemmas.Slice.Eq.{bytes_eq-Decides}
 use Rattle.std.proofs.lemmas.Str.{chars-IsAscii, encodes-IsAscii}

@@ -1,5 +1,5 @@
 -- What is kept of a part of a name, string or url, and what is known by it.
-use Rattle.std.specs.Prelude.{ℕ, ◌==◌, ◌||◌, length, List, [], ◌∷◌, Option, Some, None, Bool, true, false, if◌then◌else◌}
+use Rattle.std.specs.Prelude.{ℕ, ◌==◌, length, [], ◌∷◌, Option, Some, None, Bool, true, false, if◌then◌else◌}
 use Rattle.css_model.specs.Classes.{Text, hyphen, is_name_start}
 use Rattle.css_model.specs.Parts as model
 use Rattle.css_model.specs.Parts.{meaning, meaning_in_string, in_name, in_string, in_url, in_bad_url, part_text, hex_value_after, character_of}

@@ -1,6 +1,5 @@
 pub mod Tests
 pub mod Views
-pub mod Written
 pub mod Kept
 pub mod Found
 pub mod Nesting

@@ -1,8 +1,10 @@
 -- The tokens of the definition that tokens and lists of them are.
-use Rattle.std.specs.Prelude.{ℕ, List, map, Option, Some, None, Bool, false}
+use Rattle.std.specs.Prelude.{List, map, Option, Some, None, Bool, false}
 use Rattle.css_model.specs.Tokens as model
 use Rattle.css_tokens.specs.declared.token.Bracket.{Bracket}
 use Rattle.css_tokens.specs.declared.token.Bracket.TheVariants.{Round, Square, Curly}
+use Rattle.css_model.specs.Numerals.{Numeral}
+use Rattle.css_tokens.specs.declared.numerals.Numeral.{Numeral as Written}
 use Rattle.css_tokens.specs.declared.token.Number.{Number}
 use Rattle.css_tokens.specs.declared.token.TokenKind.{TokenKind}
 use Rattle.css_tokens.specs.declared.token.TokenKind.TheVariants as kinds
@@ -57,3 +59,14 @@ number_of_kind other = None
 abbrev pub hash_is_id : TokenKind → Bool
 hash_is_id (kinds.Hash name is_id) = is_id
 hash_is_id other = false
+
+-- the number as it is written
+abbrev pub numeral_view : Written → Numeral
+numeral_view n = record {
+  sign = n.sign.now;
+  whole = n.whole.now;
+  fraction = n.fraction.now;
+  mark = n.mark.now;
+  exponent_sign = n.exponent_sign.now;
+  exponent = n.exponent.now;
+}

@@ -21,6 +21,8 @@ mod reading;
 mod runs;
 mod spans;
 mod strings;
+#[cfg(test)]
+mod tests;
 mod token;
 mod tokenizer;
 mod urls;

@@ -4,8 +4,7 @@ ghost use Rattle.std.specs.List.{list_all};
 ghost use Rattle.css_model.specs.Classes.{is_digit};
 ghost use Rattle.css_model.specs.Numerals as written;
 ghost use Rattle.css_model.specs.Fronts as model;
-ghost use Rattle.css_tokens.specs.Views.{number_view};
-ghost use Rattle.css_tokens.specs.Written.{numeral_view};
+ghost use Rattle.css_tokens.specs.Views.{number_view, numeral_view};
 
 use super::classes::{self, Class, is_e, is_sign};
 use super::magnitudes::{enlarged, reduced};

@@ -29,6 +29,15 @@ impl Written {
         }
     }
 
+    /// Nothing yet, with room for so many bytes.
+    fn with_room(alloc: Global, bytes: usize) -> Result<Written, NoMemory>
+        ensures { IfOk result (λ w. w ≡ []) }
+    {
+        Ok(Written {
+            text: String::with_capacity(alloc, bytes)?,
+        })
+    }
+
     /// Writes a character behind what is written.
     pub fn push(&mut self, c: char) -> Result<(), NoMemory>
         ensures { OnOk result (self.new ≡ self.old ++ c ∷ []) }
@@ -48,7 +57,7 @@ impl Written {
 pub fn text_of(alloc: Global, cs: &[char]) -> Result<Text, NoMemory>
     ensures { IfOk result (λ t. t ≡ cs.now) }
 {
-    let mut written = Written::new(alloc);
+    let mut written = Written::with_room(alloc, cs.len())?;
     for c in cs {
         written.push(*c)?;
     }

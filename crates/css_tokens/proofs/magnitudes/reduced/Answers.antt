@@ -1,4 +1,4 @@
-use Rattle.std.proofs.Common.{◌≡◌, ◌^◌, ◌<◌, length, arith, rules}
+use Rattle.std.proofs.Common.{◌^◌, ◌<◌, length, rules}
 use Rattle.css_model.specs.Numerals.{decimal_after}
 use Rattle.css_tokens.proofs.Points.{reduced-near, reduced-far}
 use Rattle.css_tokens.proofs.magnitudes.reduced.Goals as goal

@@ -1,7 +1,5 @@
 use Rattle.std.proofs.Common.{◌≡◌, ◌∙◌, ◌+◌, ◌&&◌, ap, sym, subst, drop, length, not, true, false}
 use Rattle.std.specs.Prelude.{IfOk, option_map}
-use Rattle.css_model.specs.Parts.{in_name}
-use Rattle.css_model.specs.Fronts.{parts_in, behind_parts}
 use Rattle.css_model.specs.Spellings.{is_url_name, quote_follows}
 use Rattle.css_model.specs.TokenList.{piece_text}
 use Rattle.css_tokens.specs.Views.{kind_view}

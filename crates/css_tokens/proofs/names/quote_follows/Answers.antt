@@ -1,4 +1,4 @@
-use Rattle.std.proofs.Common.{◌≡◌, ◌∙◌, ap, sym}
+use Rattle.std.proofs.Common.{◌∙◌, ap, sym}
 use Rattle.css_model.specs.Classes.{is_quote, begins}
 use Rattle.css_tokens.proofs.UrlNames.{quote-behind_white}
 use Rattle.css_tokens.proofs.names.quote_follows.Goals as goal

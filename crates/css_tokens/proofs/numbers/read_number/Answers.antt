@@ -1,10 +1,10 @@
-use Rattle.std.proofs.Common.{rules, arith, ◌≡◌, ◌≤◌, ◌<◌, ◌^◌, ◌+◌, ◌∙◌, ap, sym, length, length-append}
+use Rattle.std.proofs.Common.{rules, arith, ◌≡◌, ◌<◌, ◌^◌, ◌+◌, ◌∙◌, ap, sym, length, length-append}
 use Rattle.std.specs.List.{list_all}
 use Rattle.css_model.specs.Classes.{is_digit}
 use Rattle.css_model.specs.Numerals.{numeral_text}
 use Rattle.css_model.specs.Fronts.{numeral_in}
 use Rattle.css_model.proofs.FirstNumbers.{Numbers, numbers-in}
-use Rattle.css_tokens.specs.Written.{numeral_view}
+use Rattle.css_tokens.specs.Views.{numeral_view}
 use Rattle.css_tokens.proofs.numbers.read_number.Goals as goal
 
 pub number-requires-clause-whole : goal.number-requires-clause-whole

@@ -1,4 +1,4 @@
-use Rattle.std.proofs.Common.{rules, arith, ◌≡◌, ◌∙◌, ap, sym, ◌+◌, ◌++◌, ℕ, List, drop, drop-drop}
+use Rattle.std.proofs.Common.{arith, ◌≡◌, ◌∙◌, ap, sym, ◌+◌, ◌++◌, ℕ, List, drop, drop-drop}
 use Rattle.css_model.specs.Preprocessing.{preprocessed}
 use Rattle.css_tokens.proofs.preprocessing.keep_all.Goals as goal
 

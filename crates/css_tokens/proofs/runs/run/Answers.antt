@@ -1,4 +1,4 @@
-use Rattle.std.proofs.Common.{◌≡◌, ◌∙◌, ap, take}
+use Rattle.std.proofs.Common.{◌∙◌, ap, take}
 use Rattle.css_tokens.specs.Tests.{test_of}
 use Rattle.css_tokens.proofs.RunSteps.{run-take}
 use Rattle.css_tokens.proofs.runs.run.Goals as goal

@@ -1,4 +1,4 @@
-use Rattle.std.proofs.Common.{◌≡◌, ◌∙◌, ap, ap₂, sym, subst, ◌∷◌, drop-cons}
+use Rattle.std.proofs.Common.{◌≡◌, ◌∙◌, ap₂, sym, subst, ◌∷◌, drop-cons}
 use Rattle.std.specs.Prelude.{IfOk}
 use Rattle.css_tokens.specs.Found.{IsFront}
 use Rattle.css_tokens.proofs.tokenizer.front_piece.Goals as goal

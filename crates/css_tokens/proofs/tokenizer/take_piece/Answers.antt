@@ -1,4 +1,4 @@
-use Rattle.std.proofs.Common.{◌≡◌, ◌<◌, ◌≤◌, ◌∙◌, ap, sym, subst, ◌++◌, length, drop, take, length-drop, option_map, arith}
+use Rattle.std.proofs.Common.{◌≡◌, ◌<◌, ◌∙◌, ap, subst, ◌++◌, length, drop, take, length-drop, option_map, arith}
 use Rattle.css_tokens.specs.Views.{kind_view, tokens_view}
 use Rattle.css_tokens.specs.Found.{IsFront, tokens_of_class}
 use Rattle.css_tokens.proofs.FoundPieces.{count-some, count-within, taken-step}

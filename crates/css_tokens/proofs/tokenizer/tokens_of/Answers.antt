@@ -1,4 +1,4 @@
-use Rattle.std.proofs.Common.{◌≡◌, ◌∙◌, ap, sym, ◌++◌, append-nil}
+use Rattle.std.proofs.Common.{◌∙◌, ap, sym, ◌++◌, append-nil}
 use Rattle.css_tokens.specs.Views.{tokens_view}
 use Rattle.css_tokens.proofs.FoundPieces.{none-left}
 use Rattle.css_tokens.proofs.tokenizer.tokens_of.Goals as goal
