@@ -1,6 +1,5 @@
 -- How a script is answered line by line.
 use Rattle.std.proofs.Common.{◌≤◌, take, length-append, inl, inr, ◌≡◌, ◌∙◌, sym, ap, refl, subst, ℕ, ◌<◌, ◌+◌, ◌-◌, List, [], ◌∷◌, ◌++◌, length, Bool, true, false, Option, Some, None, IfNone, IfSome, append_assoc, append-nil, arith}
-use Rattle.std.proofs.Math.Seq.{take-append-add}
 use Rattle.std.proofs.lemmas.Bool.{lt-ltb}
 use Rattle.stream_model.specs.Streams.{FromTo, Appends, AppendsPart, Grew, TakesCount, NothingLeft}
 use Rattle.stream_model.specs.Lines.{newline, lines, max_line, whole_lines, IsUnbroken}
@@ -14,7 +13,7 @@ use Rattle.port_core.specs.Reader.{Reader, ahead, Gives, CountsFaults, IsFirstLi
 use Rattle.port_core.specs.declared.reader.Line.{Line}
 use Rattle.port_core.specs.declared.reader.Line.TheVariants.{TooLong, End}
 use Rattle.port_core.proofs.StreamLemmas.{FromTo-joins, FromTo-weaker, Grew-joins, TakesCount-joins}
-use Rattle.relayout_cli.specs.Runs.{the_setting, AnswersTo, Served, ServedWhole, IsWritten, IsLogged, BeginsReplies, Wrote, LogsOnce, AllOnce, FaultsBy, TakenBy, IsUntroubled, HasFewer, IsDoneButForMemory}
+use Rattle.relayout_cli.specs.Runs.{the_setting, AnswersTo, Served, ServedWhole, IsWritten, IsLogged, BeginsWithEdit, BeginsReplies, Wrote, LogsOnce, AllOnce, FaultsBy, TakenBy, IsUntroubled, HasFewer, IsDoneButForMemory}
 use Rattle.relayout_cli.specs.declared.status.Status.{Status}
 use Rattle.relayout_cli.specs.declared.status.Status.TheVariants.{Done, BadWords, ReadFault, WriteFault, NoMemory, InputSpent}
 use Rattle.relayout_cli.specs.Coming.{ReadsOn}
@@ -260,8 +259,8 @@ replies-done : (all rest old new : List ℕ) (es es' : List Event) (s : State) (
 replies-done all rest old new es es' s stopped a =
     rw (← append-nil a.done, ← append-nil a.logs, ← append-nil a.text) (a.goes_on [] [] [] (AreReplies-none (record { state = s; last = a.last })))
 
-BeginsReplies-answered : (status : Status) (all rest old new : List ℕ) (es es1 es' : List Event) (s : State) (stopped : Option Line) → ((text : List ℕ) → IsWritten status text text)
-    → ((logs : List Log) → es1 ≡ es ++ events logs → IsLogged status logs es es') → Answered all rest old new es es1 s stopped → BeginsReplies status all es es' old new
+BeginsReplies-answered : (status : Status) (all rest old new : List ℕ) (es es1 es' : List Event) (s : State) (stopped : Option Line) → ((first : List (List ℕ)) (text : List ℕ) → IsWritten status first text text)
+    → ((logs : List Log) → es1 ≡ es ++ events logs → IsLogged status (lines rest) logs es es') → Answered all rest old new es es1 s stopped → BeginsReplies status all es es' old new
 BeginsReplies-answered status all rest old new es es1 es' s stopped whole logged a = record {
   first = a.done;
   others = lines rest;
@@ -271,23 +270,40 @@ BeginsReplies-answered status all rest old new es es1 es' s stopped whole logged
   cut = a.cut;
   replies = replies-done all rest old new es es1 s stopped a;
   appended = a.appended;
-  part = whole a.text;
+  part = whole a.done a.text;
   logged = logged a.logs a.logged;
 }
 
 -- whole replies were written
-pub Wrote-told : (status : Status) (left mid held held' : Option (List ℕ)) (es es1 es' : List Event) (s : State) (stopped : Option Line) → ((text : List ℕ) → IsWritten status text text)
-    → ((logs : List Log) → es1 ≡ es ++ events logs → IsLogged status logs es es') → Told left mid held held' es es1 s stopped → Wrote status left held held' es es'
+pub Wrote-told : (status : Status) (left mid held held' : Option (List ℕ)) (es es1 es' : List Event) (s : State) (stopped : Option Line) → ((first : List (List ℕ)) (text : List ℕ) → IsWritten status first text text)
+    → ((rest : List ℕ) → mid ≡ Some rest → (logs : List Log) → es1 ≡ es ++ events logs → IsLogged status (lines rest) logs es es') → Told left mid held held' es es1 s stopped → Wrote status left held held' es es'
 Wrote-told status None mid held held' es es1 es' s stopped whole logged told = tt
 Wrote-told status (Some all) None held held' es es1 es' s stopped whole logged told = absurd told
 Wrote-told status (Some all) (Some rest) held held' es es1 es' s stopped whole logged told =
-    FromTo-weaker held held' (λ old new. Answered all rest old new es es1 s stopped) (BeginsReplies status all es es') (λ old new a. BeginsReplies-answered status all rest old new es es1 es' s stopped whole logged a) told
+    FromTo-weaker held held' (λ old new. Answered all rest old new es es1 s stopped) (BeginsReplies status all es es') (λ old new a. BeginsReplies-answered status all rest old new es es1 es' s stopped whole (logged rest refl) a) told
+
+-- a line that asks for an edit is the first of those ahead
+begins-with : (mid left' : Option (List ℕ)) (stopped' : Option Line) (a : Asked) (rest : List ℕ) → FromTo mid left' (λ all r. (line : List ℕ) × IsFirstLine line stopped' all r × (asked line ≡ a))
+    → mid ≡ Some rest → asks_edit a ≡ true → BeginsWithEdit (lines rest)
+begins-with None left' stopped' a rest f e h = absurd (cc)
+begins-with (Some x) None stopped' a rest f e h = absurd f
+begins-with (Some x) (Some y) stopped' a rest f e h =
+    let same : x ≡ rest = cc in
+    subst (λ (z : List ℕ). BeginsWithEdit (lines z)) same (subst BeginsWithEdit (sym f.1.first) (ap asks_edit f.2 ∙ h))
 
 -- the ledger where memory ran out in answering
-pub IsLogged-begun : (b : Bool) (es es1 es2 : List Event) (logs : List Log) → es1 ≡ es ++ events logs → es2 ≡ es1 ++ events (own_logs b) → IsLogged NoMemory logs es es2
-IsLogged-begun true es es1 es2 logs e f =
-    inr (f ∙ (ap (λ (x : List Event). x ++ events ([] ∷ [])) e ∙ (append_assoc es (events logs) (events ([] ∷ [])) ∙ ap (λ (x : List Event). es ++ x) (sym (events-append logs ([] ∷ []))))))
-IsLogged-begun false es es1 es2 logs e f = inl (f ∙ (append-nil es1 ∙ e))
+IsLogged-begun : (b : Bool) (others : List (List ℕ)) (es es1 es2 : List Event) (logs : List Log) → (b ≡ true → BeginsWithEdit others) → es1 ≡ es ++ events logs → es2 ≡ es1 ++ events (own_logs b) → IsLogged NoMemory others logs es es2
+IsLogged-begun true others es es1 es2 logs begins e f =
+    inr (begins refl, f ∙ (ap (λ (x : List Event). x ++ events ([] ∷ [])) e ∙ (append_assoc es (events logs) (events ([] ∷ [])) ∙ ap (λ (x : List Event). es ++ x) (sym (events-append logs ([] ∷ []))))))
+IsLogged-begun false others es es1 es2 logs begins e f = inl (f ∙ (append-nil es1 ∙ e))
+
+-- memory ran out in answering a line
+pub Wrote-begun : (left mid left' held held' : Option (List ℕ)) (es es1 es2 : List Event) (s : State) (stopped stopped' : Option Line) (a : Asked)
+    → Told left mid held held' es es1 s stopped → FromTo mid left' (λ all rest. (line : List ℕ) × IsFirstLine line stopped' all rest × (asked line ≡ a))
+    → es2 ≡ es1 ++ events (own_logs (asks_edit a)) → Wrote NoMemory left held held' es es2
+Wrote-begun left mid left' held held' es es1 es2 s stopped stopped' a told read log =
+    Wrote-told NoMemory left mid held held' es es1 es2 s stopped (λ _ _. refl)
+    (λ rest is logs e. IsLogged-begun (asks_edit a) (lines rest) es es1 es2 logs (begins-with mid left' stopped' a rest read is) e log) told
 
 BeginsReplies-cut : (all mid rest old new new' : List ℕ) (es es1 es2 : List Event) (s : State) (stopped : Option Line) (line reply : List ℕ) (k : ℕ)
     → Answered all mid old new es es1 s stopped → lines mid ≡ line ∷ lines rest → AnswersTo s (asked line) reply → k ≤ length reply → new' ≡ new ++ take k reply
@@ -305,7 +321,19 @@ BeginsReplies-cut all mid rest old new new' es es1 es2 s stopped line reply k a 
       replies = a.goes_on (line ∷ []) (own ++ []) (reply ++ [])
           (line-first (record { state = s; last = a.last }) line reply s' told refl [] [] [] (AreReplies-none (record { state = s'; last = latest (answer s line) own a.last })));
       appended = push ∙ (ap (λ (x : List ℕ). x ++ take k reply) a.appended ∙ append_assoc old a.text (take k reply));
-      part = (length a.text + k, rw append-nil (omega (arith, length-append a.text reply)), rw append-nil (sym (take-append-add a.text reply k)));
+      part = record {
+        answered = a.done;
+        last = line;
+        logs = a.logs;
+        before = a.text;
+        reply = reply;
+        part = k;
+        lines_are = refl;
+        replies = replies-done all mid old new es es1 s stopped a;
+        text_is = ap (λ (x : List ℕ). a.text ++ x) (append-nil reply);
+        within = within;
+        written = refl;
+      };
       logged = log ∙ (ap (λ (x : List Event). x ++ events own) a.logged ∙ (append_assoc es (events a.logs) (events own)
           ∙ ap (λ (x : List Event). es ++ x) (sym (events-append a.logs own) ∙ ap events (ap (λ (x : List Log). a.logs ++ x) (sym (append-nil own))))));
     }

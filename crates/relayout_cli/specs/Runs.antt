@@ -1,11 +1,11 @@
 -- What a run answers and leaves.
-use Rattle.std.specs.Prelude.{◌⊎◌, ◌^◌, ◌+◌, length, Some, None, ◌≡◌, ℕ, ◌<◌, ◌≤◌, List, [], ◌∷◌, ◌++◌, take, Option}
+use Rattle.std.specs.Prelude.{◌⊎◌, ◌^◌, ◌+◌, length, Some, None, ◌≡◌, ℕ, ◌<◌, ◌≤◌, List, [], ◌∷◌, ◌++◌, take, true, Option}
 use Rattle.stream_model.specs.Streams.{FromTo, last_count, Rose, Grew, TakesCount}
 use Rattle.stream_model.specs.Lines.{lines, whole_lines}
 use Rattle.stream_model.specs.Ledger.{Event, Log, NoneTwice, events}
 use Rattle.page_model.specs.Pages.{State}
-use Rattle.request_model.specs.Requests.{Asked}
-use Rattle.request_model.specs.States.{judged}
+use Rattle.request_model.specs.Requests.{Asked, asked}
+use Rattle.request_model.specs.States.{judged, asks_edit}
 use Rattle.layout_model.specs.Setting.{Setting, default_advances}
 use Rattle.reply_model.specs.Replies.{Spells, Replies}
 use Rattle.port_core.specs.Reader.{max_taken}
@@ -48,23 +48,42 @@ abbrev pub OnTold : Option (List ℕ) → (List ℕ → Type 0) → Type 0
 OnTold None P = Unit {0}
 OnTold (Some bytes) P = P bytes
 
--- what was written of a text of replies, by how a run ended: all of it, and where the sink failed a prefix
-abbrev pub IsWritten : Status → List ℕ → List ℕ → Type 0
-IsWritten Done text bytes = bytes ≡ text
-IsWritten BadWords text bytes = ⊥
-IsWritten ReadFault text bytes = bytes ≡ text
-IsWritten WriteFault text bytes = (k : ℕ) × (k ≤ length text) × (bytes ≡ take k text)
-IsWritten NoMemory text bytes = bytes ≡ text
-IsWritten InputSpent text bytes = bytes ≡ text
+-- the sink failed at the reply to the last of these lines: the replies to those before it are whole, and a prefix of that one stands behind them
+pub record IsCutShort (first : List (List ℕ)) (text bytes : List ℕ) : Type 0 where
+  pub answered : List (List ℕ)
+  pub last : List ℕ
+  pub logs : List Log
+  pub before : List ℕ
+  pub reply : List ℕ
+  pub part : ℕ
+  pub lines_are : first ≡ answered ++ last ∷ []
+  pub replies : Replies the_setting answered logs before
+  pub text_is : text ≡ before ++ reply
+  pub within : part ≤ length reply
+  pub written : bytes ≡ before ++ take part reply
 
--- the ledger has these logs, and where memory ran out one may have begun after them
-abbrev pub IsLogged : Status → List Log → List Event → List Event → Type 0
-IsLogged Done logs es es' = es' ≡ es ++ events logs
-IsLogged BadWords logs es es' = ⊥
-IsLogged ReadFault logs es es' = es' ≡ es ++ events logs
-IsLogged WriteFault logs es es' = es' ≡ es ++ events logs
-IsLogged NoMemory logs es es' = (es' ≡ es ++ events logs) ⊎ (es' ≡ es ++ events (logs ++ [] ∷ []))
-IsLogged InputSpent logs es es' = es' ≡ es ++ events logs
+-- what was written of the text of the replies to these lines, by how a run ended: all of it, unless the sink failed
+abbrev pub IsWritten : Status → List (List ℕ) → List ℕ → List ℕ → Type 0
+IsWritten Done first text bytes = bytes ≡ text
+IsWritten BadWords first text bytes = ⊥
+IsWritten ReadFault first text bytes = bytes ≡ text
+IsWritten WriteFault first text bytes = IsCutShort first text bytes
+IsWritten NoMemory first text bytes = bytes ≡ text
+IsWritten InputSpent first text bytes = bytes ≡ text
+
+-- the first of these lines asks for an edit
+abbrev pub BeginsWithEdit : List (List ℕ) → Type 0
+BeginsWithEdit [] = ⊥
+BeginsWithEdit (line ∷ others) = asks_edit (asked line) ≡ true
+
+-- the ledger has these logs; where memory ran out at an edit, the first of the other lines, its log may have begun
+abbrev pub IsLogged : Status → List (List ℕ) → List Log → List Event → List Event → Type 0
+IsLogged Done others logs es es' = es' ≡ es ++ events logs
+IsLogged BadWords others logs es es' = ⊥
+IsLogged ReadFault others logs es es' = es' ≡ es ++ events logs
+IsLogged WriteFault others logs es es' = es' ≡ es ++ events logs
+IsLogged NoMemory others logs es es' = (es' ≡ es ++ events logs) ⊎ (BeginsWithEdit others × (es' ≡ es ++ events (logs ++ [] ∷ [])))
+IsLogged InputSpent others logs es es' = es' ≡ es ++ events logs
 
 -- some first lines of all were answered, this was written of the replies to them, and the ledger has their logs
 pub record BeginsReplies (status : Status) (all : List ℕ) (es es' : List Event) (old new : List ℕ) : Type 0 where
@@ -76,8 +95,8 @@ pub record BeginsReplies (status : Status) (all : List ℕ) (es es' : List Event
   pub cut : lines all ≡ first ++ others
   pub replies : Replies the_setting first logs text
   pub appended : new ≡ old ++ written
-  pub part : IsWritten status text written
-  pub logged : IsLogged status logs es es'
+  pub part : IsWritten status first text written
+  pub logged : IsLogged status others logs es es'
 
 -- however a run over a script ends, what it wrote begins the replies to it
 abbrev pub Wrote : Status → Option (List ℕ) → Option (List ℕ) → Option (List ℕ) → List Event → List Event → Type 0

@@ -5,7 +5,7 @@ use Rattle.request_model.specs.States.{asks_edit}
 use Rattle.relayout_requests.specs.Views.{asked_view}
 use Rattle.relayout_cli.specs.Pages.{state_view}
 use Rattle.relayout_cli.specs.declared.status.Status.TheVariants.{Done, ReadFault, NoMemory, InputSpent}
-use Rattle.relayout_cli.proofs.ServeLemmas.{Told-start, Told-more, Told-all, Told-whole, LogsOnce-none, Wrote-told, Wrote-cut, IsLogged-begun, LogsOnce-more, Grew-reads_on, TakesCount-reads_on, Taken-by}
+use Rattle.relayout_cli.proofs.ServeLemmas.{Told-start, Told-more, Told-all, Told-whole, LogsOnce-none, Wrote-told, Wrote-cut, Wrote-begun, LogsOnce-more, Grew-reads_on, TakesCount-reads_on, Taken-by}
 use Rattle.relayout_cli.proofs.serving.serve_lines.Goals as goal
 
 pub script-init : goal.script-init
@@ -90,28 +90,29 @@ returns-in-Failed-answer-clause-wrote g c =
 
 pub returns-in-NoMemory-answer-clause-wrote : goal.returns-in-NoMemory-answer-clause-wrote
 returns-in-NoMemory-answer-clause-wrote g c =
-    rw c.in-NoMemory-answer.ensures.0 (Wrote-told NoMemory (g.I.Source.left c.args.source.now) (ahead c.script.reader.pending (g.I.Source.left c.script.source)) (g.O.Sink.held c.args.sink.now) (g.O.Sink.held c.script.sink) c.args.steps.now c.script.steps c.answer.new.steps (state_view c.script.state) c.script.reader.stopped (λ _. refl)
-    (λ logs e. IsLogged-begun (asks_edit (asked_view c.in-Asks.asked)) c.args.steps.now c.script.steps c.answer.new.steps logs e c.in-NoMemory-answer.ensures.2) c.script.invariant.told)
+    rw c.in-NoMemory-answer.ensures.0 (Wrote-begun (g.I.Source.left c.args.source.now) (ahead c.script.reader.pending (g.I.Source.left c.script.source)) (ahead c.read.new.reader.pending (g.I.Source.left c.read.new.source))
+    (g.O.Sink.held c.args.sink.now) (g.O.Sink.held c.script.sink) c.args.steps.now c.script.steps c.answer.new.steps (state_view c.script.state) c.script.reader.stopped c.read.new.reader.stopped (asked_view c.in-Asks.asked)
+    c.script.invariant.told c.in-Asks.ensures.comes.1 c.in-NoMemory-answer.ensures.2)
 
 pub returns-in-NoMemory-clause-wrote : goal.returns-in-NoMemory-clause-wrote
 returns-in-NoMemory-clause-wrote g c =
-    Wrote-told NoMemory (g.I.Source.left c.args.source.now) (ahead c.script.reader.pending (g.I.Source.left c.script.source)) (g.O.Sink.held c.args.sink.now) (g.O.Sink.held c.script.sink) c.args.steps.now c.script.steps c.script.steps (state_view c.script.state) c.script.reader.stopped (λ _. refl) (λ _ e. inl e) c.script.invariant.told
+    Wrote-told NoMemory (g.I.Source.left c.args.source.now) (ahead c.script.reader.pending (g.I.Source.left c.script.source)) (g.O.Sink.held c.args.sink.now) (g.O.Sink.held c.script.sink) c.args.steps.now c.script.steps c.script.steps (state_view c.script.state) c.script.reader.stopped (λ _ _. refl) (λ _ _ _ e. inl e) c.script.invariant.told
 
 pub returns-in-End-clause-wrote : goal.returns-in-End-clause-wrote
 returns-in-End-clause-wrote g c =
-    Wrote-told Done (g.I.Source.left c.args.source.now) (ahead c.script.reader.pending (g.I.Source.left c.script.source)) (g.O.Sink.held c.args.sink.now) (g.O.Sink.held c.script.sink) c.args.steps.now c.script.steps c.script.steps (state_view c.script.state) c.script.reader.stopped (λ _. refl) (λ _ e. e) c.script.invariant.told
+    Wrote-told Done (g.I.Source.left c.args.source.now) (ahead c.script.reader.pending (g.I.Source.left c.script.source)) (g.O.Sink.held c.args.sink.now) (g.O.Sink.held c.script.sink) c.args.steps.now c.script.steps c.script.steps (state_view c.script.state) c.script.reader.stopped (λ _ _. refl) (λ _ _ _ e. e) c.script.invariant.told
 
 pub returns-in-Failed-clause-wrote : goal.returns-in-Failed-clause-wrote
 returns-in-Failed-clause-wrote g c =
-    Wrote-told ReadFault (g.I.Source.left c.args.source.now) (ahead c.script.reader.pending (g.I.Source.left c.script.source)) (g.O.Sink.held c.args.sink.now) (g.O.Sink.held c.script.sink) c.args.steps.now c.script.steps c.script.steps (state_view c.script.state) c.script.reader.stopped (λ _. refl) (λ _ e. e) c.script.invariant.told
+    Wrote-told ReadFault (g.I.Source.left c.args.source.now) (ahead c.script.reader.pending (g.I.Source.left c.script.source)) (g.O.Sink.held c.args.sink.now) (g.O.Sink.held c.script.sink) c.args.steps.now c.script.steps c.script.steps (state_view c.script.state) c.script.reader.stopped (λ _ _. refl) (λ _ _ _ e. e) c.script.invariant.told
 
 pub returns-in-Spent-clause-wrote : goal.returns-in-Spent-clause-wrote
 returns-in-Spent-clause-wrote g c =
-    Wrote-told InputSpent (g.I.Source.left c.args.source.now) (ahead c.script.reader.pending (g.I.Source.left c.script.source)) (g.O.Sink.held c.args.sink.now) (g.O.Sink.held c.script.sink) c.args.steps.now c.script.steps c.script.steps (state_view c.script.state) c.script.reader.stopped (λ _. refl) (λ _ e. e) c.script.invariant.told
+    Wrote-told InputSpent (g.I.Source.left c.args.source.now) (ahead c.script.reader.pending (g.I.Source.left c.script.source)) (g.O.Sink.held c.args.sink.now) (g.O.Sink.held c.script.sink) c.args.steps.now c.script.steps c.script.steps (state_view c.script.state) c.script.reader.stopped (λ _ _. refl) (λ _ _ _ e. e) c.script.invariant.told
 
 pub returns-in-Err-clause-wrote : goal.returns-in-Err-clause-wrote
 returns-in-Err-clause-wrote g c =
-    Wrote-told NoMemory (g.I.Source.left c.args.source.now) (ahead [] (g.I.Source.left c.args.source.now)) (g.O.Sink.held c.args.sink.now) (g.O.Sink.held c.args.sink.now) c.args.steps.now c.args.steps.now c.args.steps.now None None (λ _. refl) (λ _ e. inl e)
+    Wrote-told NoMemory (g.I.Source.left c.args.source.now) (ahead [] (g.I.Source.left c.args.source.now)) (g.O.Sink.held c.args.sink.now) (g.O.Sink.held c.args.sink.now) c.args.steps.now c.args.steps.now c.args.steps.now None None (λ _ _. refl) (λ _ _ _ e. inl e)
     (Told-start (g.I.Source.left c.args.source.now) (g.O.Sink.held c.args.sink.now) c.args.steps.now)
 
 pub returns-in-Failed-clause-broken_off : goal.returns-in-Failed-clause-broken_off
