@@ -8,7 +8,7 @@ ghost use Rattle.css_tokens.specs.Tests.{test_of};
 pub enum Class {
     Digit,
     HexDigit,
-    White,
+    Whitespace,
     Sign,
     Hyphen,
     Quote,
@@ -24,7 +24,7 @@ impl Class {
         match self {
             Class::Digit => is_digit(c),
             Class::HexDigit => is_hex_digit(c),
-            Class::White => is_white(c),
+            Class::Whitespace => is_whitespace(c),
             Class::Sign => is_sign(c),
             Class::Hyphen => c == '-',
             Class::Quote => is_quote(c),
@@ -56,17 +56,17 @@ pub fn is_letter(c: char) -> bool
 }
 
 /// An ident-start code point: a letter, what is not ASCII, or `_`.
-pub fn is_name_start(c: char) -> bool
-    ensures { result ≡ model.is_name_start c }
+pub fn is_ident_start(c: char) -> bool
+    ensures { result ≡ model.is_ident_start c }
 {
     is_letter(c) || '\u{80}' <= c || c == '_'
 }
 
 /// An ident code point: an ident-start code point, a digit or `-`.
-pub fn is_name_char(c: char) -> bool
-    ensures { result ≡ model.is_name_char c }
+pub fn is_ident_char(c: char) -> bool
+    ensures { result ≡ model.is_ident_char c }
 {
-    is_name_start(c) || is_digit(c) || c == '-'
+    is_ident_start(c) || is_digit(c) || c == '-'
 }
 
 /// A non-printable code point.
@@ -76,9 +76,9 @@ pub fn is_non_printable(c: char) -> bool
     c <= '\u{8}' || c == '\u{b}' || ('\u{e}' <= c && c <= '\u{1f}') || c == '\u{7f}'
 }
 
-/// White space: a newline, a tab or a space.
-pub fn is_white(c: char) -> bool
-    ensures { result ≡ model.is_white c }
+/// Whitespace: a newline, a tab or a space.
+pub fn is_whitespace(c: char) -> bool
+    ensures { result ≡ model.is_whitespace c }
 {
     c == '\n' || c == '\t' || c == ' '
 }

@@ -34,8 +34,8 @@ fn begins_unsigned(cs: &[char]) -> bool
 }
 
 /// A number begins here.
-pub fn begins_number(cs: &[char]) -> bool
-    ensures { result ≡ model.begins_number cs.now }
+pub fn would_start_number(cs: &[char]) -> bool
+    ensures { result ≡ model.would_start_number cs.now }
 {
     match cs {
         [] => false,

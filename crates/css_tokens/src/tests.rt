@@ -28,7 +28,7 @@ fn spell_kind(alloc: Global, kind: &TokenKind) -> Result<String, AllocError> {
         TokenKind::Dimension(n, unit) => {
             format!(in alloc; "dimension {} {}", unit.as_str(), spell_number(alloc, *n)?)
         }
-        TokenKind::WhiteSpace => String::from_str(alloc, "white"),
+        TokenKind::Whitespace => String::from_str(alloc, "white"),
         TokenKind::Cdo => String::from_str(alloc, "cdo"),
         TokenKind::Cdc => String::from_str(alloc, "cdc"),
         TokenKind::Colon => String::from_str(alloc, "colon"),

@@ -54,8 +54,8 @@ pub enum TokenKind {
     Percentage(Number),
     /// A number and a unit, which is an identifier.
     Dimension(Number, Text),
-    /// A run of white space.
-    WhiteSpace,
+    /// A run of whitespace.
+    Whitespace,
     /// `<!--`.
     Cdo,
     /// `-->`.

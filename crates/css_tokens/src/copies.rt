@@ -24,7 +24,7 @@ impl TokenKind {
             TokenKind::Number(n) => TokenKind::Number(*n),
             TokenKind::Percentage(n) => TokenKind::Percentage(*n),
             TokenKind::Dimension(n, unit) => TokenKind::Dimension(*n, copy_text(alloc, unit)?),
-            TokenKind::WhiteSpace => TokenKind::WhiteSpace,
+            TokenKind::Whitespace => TokenKind::Whitespace,
             TokenKind::Cdo => TokenKind::Cdo,
             TokenKind::Cdc => TokenKind::Cdc,
             TokenKind::Colon => TokenKind::Colon,
