@@ -6,13 +6,21 @@ ghost use Rattle.css_tokens.specs.Tests.{test_of};
 /// A class of characters, of which runs are read.
 #[derive(Clone, Copy, Debug, PartialEq, Eq)]
 pub enum Class {
+    /// A digit: 0 to 9.
     Digit,
+    /// A hex digit: a digit, A to F or a to f.
     HexDigit,
+    /// Whitespace: a newline, a tab or a space.
     Whitespace,
+    /// `+` or `-`.
     Sign,
+    /// `-`.
     Hyphen,
+    /// `"` or `'`.
     Quote,
+    /// `(`.
     OpenRound,
+    /// `)`.
     CloseRound,
 }
 
@@ -38,21 +46,21 @@ impl Class {
 pub fn is_digit(c: char) -> bool
     ensures { result ≡ model.is_digit c }
 {
-    '0' <= c && c <= '9'
+    c.is_ascii_digit()
 }
 
 /// A hex digit: a digit, A to F or a to f.
 pub fn is_hex_digit(c: char) -> bool
     ensures { result ≡ model.is_hex_digit c }
 {
-    is_digit(c) || ('A' <= c && c <= 'F') || ('a' <= c && c <= 'f')
+    c.is_ascii_hexdigit()
 }
 
 /// A letter: A to Z or a to z.
 pub fn is_letter(c: char) -> bool
     ensures { result ≡ model.is_letter c }
 {
-    ('A' <= c && c <= 'Z') || ('a' <= c && c <= 'z')
+    c.is_ascii_alphabetic()
 }
 
 /// An ident-start code point: a letter, what is not ASCII, or `_`.

@@ -31,8 +31,5 @@ fn inside_length(cs: &[char]) -> usize
 fn begins_end(cs: &[char]) -> bool
     ensures { result ≡ model.has_front (codes "*/") cs.now }
 {
-    match cs {
-        ['*', '/', ..] => true,
-        _ => false,
-    }
+    matches!(cs, ['*', '/', ..])
 }

@@ -42,28 +42,19 @@ pub fn first_piece(alloc: Global, c: char, rest: &[char], text: &[char]) -> Resu
 fn begins_comment(cs: &[char]) -> bool
     ensures { result ≡ model.has_front (codes "/*") cs.now }
 {
-    match cs {
-        ['/', '*', ..] => true,
-        _ => false,
-    }
+    matches!(cs, ['/', '*', ..])
 }
 
 fn begins_cdc(cs: &[char]) -> bool
     ensures { result ≡ model.has_front (codes "-->") cs.now }
 {
-    match cs {
-        ['-', '-', '>', ..] => true,
-        _ => false,
-    }
+    matches!(cs, ['-', '-', '>', ..])
 }
 
 fn begins_cdo(cs: &[char]) -> bool
     ensures { result ≡ model.has_front (codes "<!--") cs.now }
 {
-    match cs {
-        ['<', '!', '-', '-', ..] => true,
-        _ => false,
-    }
+    matches!(cs, ['<', '!', '-', '-', ..])
 }
 
 /// The piece of a text that begins with no whitespace, quote, comment or number.
@@ -104,7 +95,10 @@ fn hash_piece(alloc: Global, rest: &[char]) -> Result<Piece, NoMemory>
     if decoded.count == 0 {
         return Ok(Piece::token(kind_of('#'), 1));
     }
-    let kind = TokenKind::Hash(decoded.meaning, would_start_ident(rest));
+    let kind = TokenKind::Hash {
+        name: decoded.meaning,
+        is_id: would_start_ident(rest),
+    };
     Ok(Piece::token(kind, 1 + decoded.count))
 }
 

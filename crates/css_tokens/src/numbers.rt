@@ -39,10 +39,7 @@ pub fn consume_numeric(alloc: Global, cs: &[char]) -> Result<Piece, NoMemory>
 fn begins_percent(cs: &[char]) -> bool
     ensures { result ≡ model.has_front (codes "%") cs.now }
 {
-    match cs {
-        ['%', ..] => true,
-        _ => false,
-    }
+    matches!(cs, ['%', ..])
 }
 
 /// The number in front, and how many characters it has.
