@@ -3,11 +3,11 @@ use Rattle.std.proofs.Common.{◌≡◌, ◌∙◌, sym, ap, refl, subst, ℕ, s
 use Rattle.std.proofs.lemmas.Bool.{true≢false, false≢true}
 use Rattle.std.specs.Prelude.{codes}
 use Rattle.std.specs.List.{list_all}
-use Rattle.css_model.specs.Classes.{Text, hyphen, backslash, full_stop, is_digit, is_name_start, is_white, is_quote, is_empty}
-use Rattle.css_model.specs.Tokens.{round, square, curly, Kind, ident, function, at_keyword, hash, string, bad_string, url, bad_url, delim, number, percentage, dimension, white_space, cdo, cdc, colon, semicolon, comma, opening, closing}
-use Rattle.css_model.specs.Parts.{Part, itself, escaped, coded, joined, cut_off, parts_text, AreParts, in_name}
+use Rattle.css_model.specs.Classes.{Text, hyphen, backslash, full_stop, is_digit, is_ident_start, is_whitespace, is_quote, is_empty}
+use Rattle.css_model.specs.Tokens.{round, square, curly, Kind, ident, function, at_keyword, hash, string, bad_string, url, bad_url, delim, number, percentage, dimension, whitespace, cdo, cdc, colon, semicolon, comma, opening, closing}
+use Rattle.css_model.specs.Parts.{Part, itself, escaped, hex_escape, escaped_newline, escape_at_end, parts_text, AreParts, in_name}
 use Rattle.css_model.specs.Numerals.{Numeral, fraction_text, exponent_text, numeral_text, IsNumeral}
-use Rattle.css_model.specs.Spellings.{begins_identifier, follows_hyphen, IsName, IsUrlHead, is_one_of, begins_other, IsDelim, Spells}
+use Rattle.css_model.specs.Spellings.{would_start_ident, follows_hyphen, IsName, IsUrlHead, is_one_of, begins_other, IsDelim, Spells}
 use Rattle.css_model.specs.TokenList.{Piece, comment, token}
 use Rattle.css_model.specs.Pieces.{kind_of}
 use Rattle.css_model.proofs.Tests.{and-left, and-right, or-cases, or-false-left, or-false-right}
@@ -19,10 +19,10 @@ use Rattle.css_model.proofs.Meets.{Meets, meet}
 
 -- a character with which no longer class begins, before this rest
 pub record Alone (c : ℕ) (rest : Text) : Type 0 where
-  pub white : is_white c ≡ false
+  pub white : is_whitespace c ≡ false
   pub quote : is_quote c ≡ false
   pub digit : is_digit c ≡ false
-  pub start : is_name_start c ≡ false
+  pub start : is_ident_start c ≡ false
   pub no_escape : (c == backslash) && is_empty rest ≡ false
 
 -- ---- no names
@@ -31,31 +31,31 @@ follows-some : (parts : List Part) → follows_hyphen parts ≡ true → 1 ≤ l
 follows-some [] h = absurd (false≢true h)
 follows-some (itself c ∷ parts) h = omega arith
 follows-some (escaped c ∷ parts) h = omega arith
-follows-some (coded digits blank ∷ parts) h = omega arith
-follows-some (joined ∷ parts) h = omega arith
-follows-some (cut_off ∷ parts) h = omega arith
+follows-some (hex_escape digits blank ∷ parts) h = omega arith
+follows-some (escaped_newline ∷ parts) h = omega arith
+follows-some (escape_at_end ∷ parts) h = omega arith
 
 -- behind the first of one character stands nothing
 tail-none : (d c : ℕ) (xs : Text) → d ∷ xs ≡ c ∷ [] → length xs ≡ 0
 tail-none d c xs e = ap (λ ys. length (drop 1 ys)) e
 
-name-longer : (parts : List Part) (c : ℕ) (rest : Text) → Alone c rest → AreParts in_name parts rest → parts_text parts ≡ c ∷ [] → begins_identifier parts ≡ true → ⊥
+name-longer : (parts : List Part) (c : ℕ) (rest : Text) → Alone c rest → AreParts in_name parts rest → parts_text parts ≡ c ∷ [] → would_start_ident parts ≡ true → ⊥
 name-longer [] c rest a h e i = false≢true i
-name-longer (itself d ∷ parts) c rest a h e i = elim (or-cases (is_name_start d) ((d == hyphen) && follows_hyphen parts) i) [
-  | inl t ↦ true≢false (sym t ∙ (ap (λ xs. is_name_start (first_or xs)) e ∙ a.start))
+name-longer (itself d ∷ parts) c rest a h e i = elim (or-cases (is_ident_start d) ((d == hyphen) && follows_hyphen parts) i) [
+  | inl t ↦ true≢false (sym t ∙ (ap (λ xs. is_ident_start (first_or xs)) e ∙ a.start))
   | inr t ↦
       let some : 1 ≤ length (parts_text parts) = follows-some parts (and-right (d == hyphen) (follows_hyphen parts) t) in
       let none : length (parts_text parts) ≡ 0 = tail-none d c (parts_text parts) e in
       absurd (omega (arith, some, none))
 ]
 name-longer (escaped d ∷ parts) c rest a h e i = let none : length (d ∷ parts_text parts) ≡ 0 = tail-none backslash c (d ∷ parts_text parts) e in absurd (omega (arith, none))
-name-longer (coded digits blank ∷ parts) c rest a h e i =
+name-longer (hex_escape digits blank ∷ parts) c rest a h e i =
     let some : 1 ≤ length digits = h.1.1 in
     let none : length ((digits ++ blank) ++ parts_text parts) ≡ 0 = tail-none backslash c ((digits ++ blank) ++ parts_text parts) e in
     let all : length ((digits ++ blank) ++ parts_text parts) ≡ length digits + length blank + length (parts_text parts) = length-append (digits ++ blank) (parts_text parts) ∙ ap (λ n. n + length (parts_text parts)) (length-append digits blank) in
     absurd (omega (arith, some, none, all))
-name-longer (joined ∷ parts) c rest a h e i = false≢true i
-name-longer (cut_off ∷ parts) c rest a h e i =
+name-longer (escaped_newline ∷ parts) c rest a h e i = false≢true i
+name-longer (escape_at_end ∷ parts) c rest a h e i =
     let none : parts_text parts ≡ [] = ap (drop 1) e in
     let end : rest ≡ [] = sym (ap (λ xs. xs ++ rest) none) ∙ h.1 in
     true≢false (sym (ap (λ xs. (first_or xs == backslash) && is_empty rest) (sym e) ∙ ap is_empty end) ∙ a.no_escape)
@@ -131,23 +131,23 @@ is_listed c = is_one_of (codes ":;,()[]{}") c
 
 pub delim-alone : (c : ℕ) (s rest : Text) → IsDelim c s rest → Alone c rest
 delim-alone c s rest h =
-    let o1 : is_quote c || (is_digit c || (is_name_start c || is_listed c)) ≡ false = or-false-right (is_white c) (is_quote c || (is_digit c || (is_name_start c || is_listed c))) h.other in
-    let o2 : is_digit c || (is_name_start c || is_listed c) ≡ false = or-false-right (is_quote c) (is_digit c || (is_name_start c || is_listed c)) o1 in
-    let o3 : is_name_start c || is_listed c ≡ false = or-false-right (is_digit c) (is_name_start c || is_listed c) o2 in
+    let o1 : is_quote c || (is_digit c || (is_ident_start c || is_listed c)) ≡ false = or-false-right (is_whitespace c) (is_quote c || (is_digit c || (is_ident_start c || is_listed c))) h.other in
+    let o2 : is_digit c || (is_ident_start c || is_listed c) ≡ false = or-false-right (is_quote c) (is_digit c || (is_ident_start c || is_listed c)) o1 in
+    let o3 : is_ident_start c || is_listed c ≡ false = or-false-right (is_digit c) (is_ident_start c || is_listed c) o2 in
     record {
-      white = or-false-left (is_white c) (is_quote c || (is_digit c || (is_name_start c || is_listed c))) h.other;
-      quote = or-false-left (is_quote c) (is_digit c || (is_name_start c || is_listed c)) o1;
-      digit = or-false-left (is_digit c) (is_name_start c || is_listed c) o2;
-      start = or-false-left (is_name_start c) (is_listed c) o3;
+      white = or-false-left (is_whitespace c) (is_quote c || (is_digit c || (is_ident_start c || is_listed c))) h.other;
+      quote = or-false-left (is_quote c) (is_digit c || (is_ident_start c || is_listed c)) o1;
+      digit = or-false-left (is_digit c) (is_ident_start c || is_listed c) o2;
+      start = or-false-left (is_ident_start c) (is_listed c) o3;
       no_escape = h.no_escape;
     }
 
 delim-kind : (c : ℕ) → begins_other c ≡ false → delim c ≡ kind_of c
 delim-kind c h =
-    let o1 : is_quote c || (is_digit c || (is_name_start c || is_listed c)) ≡ false = or-false-right (is_white c) (is_quote c || (is_digit c || (is_name_start c || is_listed c))) h in
-    let o2 : is_digit c || (is_name_start c || is_listed c) ≡ false = or-false-right (is_quote c) (is_digit c || (is_name_start c || is_listed c)) o1 in
-    let o3 : is_name_start c || is_listed c ≡ false = or-false-right (is_digit c) (is_name_start c || is_listed c) o2 in
-    other-delim c (or-false-right (is_name_start c) (is_listed c) o3)
+    let o1 : is_quote c || (is_digit c || (is_ident_start c || is_listed c)) ≡ false = or-false-right (is_whitespace c) (is_quote c || (is_digit c || (is_ident_start c || is_listed c))) h in
+    let o2 : is_digit c || (is_ident_start c || is_listed c) ≡ false = or-false-right (is_quote c) (is_digit c || (is_ident_start c || is_listed c)) o1 in
+    let o3 : is_ident_start c || is_listed c ≡ false = or-false-right (is_digit c) (is_ident_start c || is_listed c) o2 in
+    other-delim c (or-false-right (is_ident_start c) (is_listed c) o3)
 
 -- the class of a mark that is written so
 mark-kind : (kind : Kind) (d c : ℕ) (s : Text) → kind ≡ kind_of d → s ≡ d ∷ [] → s ≡ c ∷ [] → kind ≡ kind_of c
@@ -169,7 +169,7 @@ alone-is (delim d) c s rest a e h = mark-kind (delim d) d c s (delim-kind d h.ot
 alone-is (number n) c s rest a e h = absurd (number-longer h.numeral [] s c rest a h.is_numeral h.spelling e)
 alone-is (percentage n) c s rest a e h = absurd (number-longer h.numeral (codes "%") s c rest a h.is_numeral h.spelling e)
 alone-is (dimension n unit) c s rest a e h = absurd (number-longer h.numeral h.tail s c rest a h.is_numeral h.spelling e)
-alone-is white_space c s rest a e h = absurd (true≢false (sym (and-left (is_white c) true (ap (list_all is_white) (sym e) ∙ h.0)) ∙ a.white))
+alone-is whitespace c s rest a e h = absurd (true≢false (sym (and-left (is_whitespace c) true (ap (list_all is_whitespace) (sym e) ∙ h.0)) ∙ a.white))
 alone-is cdo c s rest a e h = absurd (no-long s c e (subst (λ xs. 2 ≤ length xs) (sym h) (omega arith)))
 alone-is cdc c s rest a e h = absurd (no-long s c e (subst (λ xs. 2 ≤ length xs) (sym h) (omega arith)))
 alone-is colon c s rest a e h = mark-kind colon 58 c s refl h e

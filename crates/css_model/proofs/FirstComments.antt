@@ -7,7 +7,7 @@ use Rattle.std.specs.Prelude.{codes}
 use Rattle.css_model.specs.Classes.{Text, begins}
 use Rattle.css_model.specs.Spellings.{IsEnd}
 use Rattle.css_model.specs.TokenList.{piece_text, has_comment_end}
-use Rattle.css_model.specs.Pieces.{has_front, comment_inside, comment_end, comment_piece}
+use Rattle.css_model.specs.Pieces.{has_front, comment_inside, comment_end, consume_comment}
 use Rattle.css_model.proofs.Tests.{and-left, and-right, or-false-left, or-false-right, pick-true, pick-false}
 use Rattle.css_model.proofs.Laws.{IsFirst}
 use Rattle.css_model.proofs.Longest.{comments, Bound, longest}
@@ -93,7 +93,7 @@ end-within : (end rest : Text) → IsEnd (codes "*/") end rest → length end �
 end-within end rest (inl e) = subst (λ xs. length xs ≤ length (comment_end (xs ++ rest))) (sym e) (omega arith)
 end-within end rest (inr e) = subst (λ xs. length xs ≤ length (comment_end (xs ++ rest))) (sym e.0) (omega arith)
 
-comment-bound : (cs : Text) → Bound comments (47 ∷ 42 ∷ cs) (length (piece_text (comment_piece cs)))
+comment-bound : (cs : Text) → Bound comments (47 ∷ 42 ∷ cs) (length (piece_text (consume_comment cs)))
 comment-bound cs s behind e i =
     let all : 47 ∷ 42 ∷ ((i.inside ++ i.end) ++ behind) ≡ 47 ∷ 42 ∷ cs = ap (λ xs. xs ++ behind) (sym i.spelling) ∙ e in
     let tail : i.inside ++ (i.end ++ behind) ≡ cs = sym (append_assoc i.inside i.end behind) ∙ ap (drop 2) all in
@@ -104,7 +104,7 @@ comment-bound cs s behind e i =
     let same : length (comment_inside cs) ≡ length i.inside = ap length is in
     rw (length-append (comment_inside cs) (comment_end (drop (length (comment_inside cs)) cs))) (omega (arith, end, mine, same))
 
-pub comment-first : (cs : Text) → IsFirst (comment_piece cs) (47 ∷ 42 ∷ cs)
+pub comment-first : (cs : Text) → IsFirst (consume_comment cs) (47 ∷ 42 ∷ cs)
 comment-first cs =
     let inside : Inside cs = insides cs in
     record {
@@ -112,5 +112,5 @@ comment-first cs =
       joins = ap (λ xs. 47 ∷ 42 ∷ xs) (append_assoc (comment_inside cs) (comment_end (drop (length (comment_inside cs)) cs)) inside.rest ∙ inside.joins);
       some = omega arith;
       is = record { inside = comment_inside cs; end = comment_end (drop (length (comment_inside cs)) cs); spelling = refl; no_end_inside = inside.no_end; ends = inside.ends };
-      longest = longest (47 ∷ 42 ∷ cs) (length (piece_text (comment_piece cs))) (omega arith) (bounds-47 (42 ∷ cs) (length (piece_text (comment_piece cs))) (comment-bound cs));
+      longest = longest (47 ∷ 42 ∷ cs) (length (piece_text (consume_comment cs))) (omega arith) (bounds-47 (42 ∷ cs) (length (piece_text (consume_comment cs))) (comment-bound cs));
     }

@@ -2,13 +2,13 @@
 use Rattle.std.proofs.Common.{◌≡◌, ◌∙◌, sym, ap, refl, subst, ℕ, ◌+◌, ◌≤◌, ◌==◌, List, [], ◌∷◌, ◌++◌, length, drop, true, false, ◌&&◌, not, arith, append_assoc, length-append, eqb-true, inl, inr}
 use Rattle.std.proofs.lemmas.Bool.{cases_Bool, true≢false, false≢true, cond_both}
 use Rattle.std.specs.Prelude.{codes, flat_map, if◌then◌else◌}
-use Rattle.css_model.specs.Classes.{Text, open_round, close_round, is_white, is_quote, begins}
+use Rattle.css_model.specs.Classes.{Text, open_round, close_round, is_whitespace, is_quote, begins}
 use Rattle.css_model.specs.Tokens.{ident, function}
-use Rattle.css_model.specs.Parts.{Part, itself, escaped, coded, joined, cut_off, parts_text, meaning, in_name, in_bad_url}
-use Rattle.css_model.specs.Spellings.{begins_identifier, quote_follows, is_url_name, IsName, IsFunction, IsUrlHead, IsUrl, IsBadUrl}
+use Rattle.css_model.specs.Parts.{Part, itself, escaped, hex_escape, escaped_newline, escape_at_end, parts_text, meaning, in_name, in_bad_url}
+use Rattle.css_model.specs.Spellings.{would_start_ident, quote_follows, is_url_name, IsName, IsFunction, IsUrlHead, IsUrl, IsBadUrl}
 use Rattle.css_model.specs.TokenList.{Piece, token, piece_text, IsPiece}
-use Rattle.css_model.specs.Fronts.{parts_in, behind_parts, begins_number}
-use Rattle.css_model.specs.Pieces.{has_front, url_piece, name_piece}
+use Rattle.css_model.specs.Fronts.{parts_in, behind_parts, would_start_number}
+use Rattle.css_model.specs.Pieces.{has_front, consume_url, consume_ident_like}
 use Rattle.css_model.proofs.Tests.{and-left, and-right, both, not-true, not-false}
 use Rattle.css_model.proofs.PartLemmas.{parts_in-stop, Fronts, fronts}
 use Rattle.css_model.proofs.Demands.{begins_name}
@@ -96,7 +96,7 @@ names-url cs ds b yes' =
       (λ value s behind e i.
           let l : length s ≡ length (parts_text (parts_in in_name cs) ++ codes "(") + length (closed_text in_bad_url close_round ds) =
           url-size s i.head (i.before ++ (parts_text i.parts ++ (i.after ++ i.end))) (i.before ++ (parts_text i.parts ++ (i.after ++ (i.end ++ behind)))) ds cs i.spelling (url-headed value s behind cs e i) b
-          (url-closed i.before i.after i.end behind i.parts i.white_before i.are_parts i.white_after i.ends) in
+          (url-closed i.before i.after i.end behind i.parts i.whitespace_before i.are_parts i.whitespace_after i.ends) in
           omega (arith, l)),
       (λ s behind e i.
           let l : length s ≡ length (parts_text (parts_in in_name cs) ++ codes "(") + length (closed_text in_bad_url close_round ds) =
@@ -107,12 +107,12 @@ names-url cs ds b yes' =
 
 -- ---- other classes
 
--- no white space, quote, comment, number or `-->` stands in front
+-- no whitespace, quote, comment, number or `-->` stands in front
 pub record Named (cs : Text) : Type 0 where
   pub comment : has_front (codes "/*") cs ≡ false
-  pub white : begins is_white cs ≡ false
+  pub white : begins is_whitespace cs ≡ false
   pub quote : begins is_quote cs ≡ false
-  pub number : begins_number cs ≡ false
+  pub number : would_start_number cs ≡ false
   pub cdc : has_front (codes "-->") cs ≡ false
   pub name : begins_name cs ≡ true
 
@@ -126,19 +126,19 @@ bounds-named c cs k o b quotes = inl o.quote
 bounds-named c cs k o b numbers = inl o.number
 bounds-named c cs k o b names = inr b
 bounds-named c cs k o b cdcs = inl o.cdc
-bounds-named c cs k o b cdos = inl (ap (λ t. t && has_front (codes "!--") cs) (other-char c 60 cs o.name (ap begins_identifier (parts_in-stop in_name 60 cs refl))))
-bounds-named c cs k o b hashes = inl (other-char c 35 cs o.name (ap begins_identifier (parts_in-stop in_name 35 cs refl)))
-bounds-named c cs k o b ats = inl (other-char c 64 cs o.name (ap begins_identifier (parts_in-stop in_name 64 cs refl)))
+bounds-named c cs k o b cdos = inl (ap (λ t. t && has_front (codes "!--") cs) (other-char c 60 cs o.name (ap would_start_ident (parts_in-stop in_name 60 cs refl))))
+bounds-named c cs k o b hashes = inl (other-char c 35 cs o.name (ap would_start_ident (parts_in-stop in_name 35 cs refl)))
+bounds-named c cs k o b ats = inl (other-char c 64 cs o.name (ap would_start_ident (parts_in-stop in_name 64 cs refl)))
 
 -- ---- the first piece
 
-pub some-text : (parts : List Part) → begins_identifier parts ≡ true → 1 ≤ length (parts_text parts)
+pub some-text : (parts : List Part) → would_start_ident parts ≡ true → 1 ≤ length (parts_text parts)
 some-text [] h = absurd (false≢true h)
 some-text (itself c ∷ parts) h = omega arith
 some-text (escaped c ∷ parts) h = omega arith
-some-text (coded digits blank ∷ parts) h = omega arith
-some-text (joined ∷ parts) h = omega arith
-some-text (cut_off ∷ parts) h = omega arith
+some-text (hex_escape digits blank ∷ parts) h = omega arith
+some-text (escaped_newline ∷ parts) h = omega arith
+some-text (escape_at_end ∷ parts) h = omega arith
 
 ident-first : (c : ℕ) (cs : Text) → Named (c ∷ cs) → begins (λ d. d == open_round) (behind_parts (parts_in in_name (c ∷ cs)) (c ∷ cs)) ≡ false
     → IsFirst (token (ident (flat_map meaning (parts_in in_name (c ∷ cs)))) (parts_text (parts_in in_name (c ∷ cs)))) (c ∷ cs)
@@ -178,12 +178,12 @@ function-first c cs ds o b ne =
     }
 
 url-first : (c : ℕ) (cs ds : Text) → Named (c ∷ cs) → behind_parts (parts_in in_name (c ∷ cs)) (c ∷ cs) ≡ open_round ∷ ds → is_url_name (flat_map meaning (parts_in in_name (c ∷ cs))) && not (quote_follows ds) ≡ true
-    → IsFirst (url_piece (parts_text (parts_in in_name (c ∷ cs)) ++ codes "(") ds) (c ∷ cs)
+    → IsFirst (consume_url (parts_text (parts_in in_name (c ∷ cs)) ++ codes "(") ds) (c ∷ cs)
 url-first c cs ds o b y =
     let name : Text = flat_map meaning (parts_in in_name (c ∷ cs)) in
     let head : Text = parts_text (parts_in in_name (c ∷ cs)) ++ codes "(" in
     let is_head : IsUrlHead head ds = record { name = name; head = parts_text (parts_in in_name (c ∷ cs)); spelling = refl; is_name = open-name c cs ds o b; url_name = and-left (is_url_name name) (not (quote_follows ds)) y; no_quote = not-true (quote_follows ds) (and-right (is_url_name name) (not (quote_follows ds)) y) } in
-    let u : UrlPiece (url_piece head ds) head ds = url-either head ds is_head in
+    let u : UrlPiece (consume_url head ds) head ds = url-either head ds is_head in
     let k : ℕ = length head + length (closed_text in_bad_url close_round ds) in
     let size : length head ≡ length (parts_text (parts_in in_name (c ∷ cs))) + 1 = length-append (parts_text (parts_in in_name (c ∷ cs))) (codes "(") in
     let some : 1 ≤ length head + length (closed_text in_bad_url close_round ds) = omega (arith, size) in
@@ -195,12 +195,12 @@ url-first c cs ds o b y =
       longest = subst (λ n. (q : Piece) (behind : Text) → piece_text q ++ behind ≡ c ∷ cs → IsPiece q behind → length (piece_text q) ≤ n) (sym u.size) (longest (c ∷ cs) k some (bounds-named c cs k o (names-url (c ∷ cs) ds b y)));
     }
 
-pub name-first : (c : ℕ) (cs behind : Text) → Named (c ∷ cs) → behind_parts (parts_in in_name (c ∷ cs)) (c ∷ cs) ≡ behind → IsFirst (name_piece (parts_in in_name (c ∷ cs)) behind) (c ∷ cs)
+pub name-first : (c : ℕ) (cs behind : Text) → Named (c ∷ cs) → behind_parts (parts_in in_name (c ∷ cs)) (c ∷ cs) ≡ behind → IsFirst (consume_ident_like (parts_in in_name (c ∷ cs)) behind) (c ∷ cs)
 name-first c cs [] o b = ident-first c cs o (ap (begins (λ d. d == open_round)) b)
 name-first c cs (d ∷ ds) o b =
     let parts : List Part = parts_in in_name (c ∷ cs) in
     let name : Text = flat_map meaning parts in
-    let as_url : Piece = url_piece (parts_text parts ++ codes "(") ds in
+    let as_url : Piece = consume_url (parts_text parts ++ codes "(") ds in
     let as_function : Piece = token (function name) (parts_text parts ++ codes "(") in
     let as_ident : Piece = token (ident name) (parts_text parts) in
     cond_both (d == open_round) (if is_url_name name && not (quote_follows ds) then as_url else as_function) as_ident (λ p. IsFirst p (c ∷ cs))

@@ -4,7 +4,7 @@ use Rattle.std.proofs.lemmas.Bool.{cases_Bool, true≢false, false≢true, cond_
 use Rattle.std.specs.List.{list_all}
 use Rattle.css_model.specs.Classes.{Text, full_stop, is_digit, is_sign, is_e, begins, is_empty}
 use Rattle.css_model.specs.Numerals.{Numeral, fraction_text, exponent_text, numeral_text, is_at_most_one, is_exponent, IsNumeral, begins_signed_digit, begins_exponent}
-use Rattle.css_model.specs.Fronts.{one_in, run_in, begins_unsigned, begins_number, fraction_in, with_exponent, numeral_in}
+use Rattle.css_model.specs.Fronts.{one_in, run_in, begins_unsigned, would_start_number, fraction_in, with_exponent, numeral_in}
 use Rattle.css_model.proofs.Tests.{and-left, and-right, both, or-cases, not-false, pick-true, pick-false}
 use Rattle.css_model.proofs.Runs.{Runs, runs}
 use Rattle.css_model.proofs.PartLemmas.{one_in-joins}
@@ -17,7 +17,7 @@ one_in-most test [] = refl
 one_in-most test (c ∷ cs) = cond_both (test c) (c ∷ []) [] (λ xs. is_at_most_one test xs ≡ true) (λ t. both (test c) true t refl) (λ f. refl)
 
 -- behind the sign stands what begins a number
-behind-sign : (cs : Text) → begins_number cs ≡ true → begins_unsigned (drop (length (one_in is_sign cs)) cs) ≡ true
+behind-sign : (cs : Text) → would_start_number cs ≡ true → begins_unsigned (drop (length (one_in is_sign cs)) cs) ≡ true
 behind-sign [] h = absurd (false≢true h)
 behind-sign (c ∷ cs) h = elim (cases_Bool (is_sign c)) [
   | inl t ↦ ap (λ xs. begins_unsigned (drop (length xs) (c ∷ cs))) (pick-true (is_sign c) (c ∷ []) [] t) ∙ (ap begins_unsigned (sym (pick-true (is_sign c) cs (c ∷ cs) t)) ∙ h)
@@ -135,7 +135,7 @@ record Before (cs behind s w f : Text) : Type 0 where
   some : is_empty w && is_empty f ≡ false
 
 -- a text that begins as numbers do begins with the number that is computed
-pub numbers-in : (cs : Text) → begins_number cs ≡ true → Numbers (numeral_in cs) cs
+pub numbers-in : (cs : Text) → would_start_number cs ≡ true → Numbers (numeral_in cs) cs
 numbers-in cs h =
     let s : Text = one_in is_sign cs in
     let u : Text = drop (length s) cs in

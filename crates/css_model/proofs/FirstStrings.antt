@@ -1,16 +1,16 @@
--- The first piece where a text begins with white space, a quote or a comment.
+-- The first piece where a text begins with whitespace, a quote or a comment.
 use Rattle.std.proofs.Common.{◌≡◌, ◌∙◌, sym, ap, refl, subst, ℕ, suc, pred, ◌≤◌, ◌==◌, List, [], ◌∷◌, ◌++◌, length, drop, Bool, true, false, ◌||◌, arith, append_assoc, length-append, eqb-true, inl, inr}
 use Rattle.std.proofs.lemmas.Bool.{cases_Bool, true≢false, eq-eqb}
 use Rattle.std.proofs.lemmas.List.{append-nil}
 use Rattle.std.proofs.Math.Seq.{drop-append_seam}
 use Rattle.std.specs.Prelude.{flat_map, if◌then◌else◌}
-use Rattle.css_model.specs.Classes.{Text, backslash, is_newline, is_hex_digit, is_white, is_quote, is_empty}
-use Rattle.css_model.specs.Tokens.{string, bad_string, white_space}
-use Rattle.css_model.specs.Parts.{Part, itself, escaped, joined, part_text, parts_text, AreParts, meaning_in_string, in_name, in_string}
-use Rattle.css_model.specs.Spellings.{begins_identifier, IsEnd}
+use Rattle.css_model.specs.Classes.{Text, backslash, is_newline, is_hex_digit, is_whitespace, is_quote, is_empty}
+use Rattle.css_model.specs.Tokens.{string, bad_string, whitespace}
+use Rattle.css_model.specs.Parts.{Part, itself, escaped, escaped_newline, part_text, parts_text, AreParts, meaning_in_string, in_name, in_string}
+use Rattle.css_model.specs.Spellings.{would_start_ident, IsEnd}
 use Rattle.css_model.specs.TokenList.{Piece, token, piece_text}
-use Rattle.css_model.specs.Fronts.{one_in, run_in, code_in, escape_in, part_in, parts_in, behind_parts}
-use Rattle.css_model.specs.Pieces.{string_of_parts, string_piece}
+use Rattle.css_model.specs.Fronts.{one_in, run_in, hex_escape_in, escape_in, part_in, parts_in, behind_parts}
+use Rattle.css_model.specs.Pieces.{string_of_parts, consume_string}
 use Rattle.css_model.proofs.Tests.{or-cases, pick-true, pick-false}
 use Rattle.css_model.proofs.Runs.{run_in-longest, Runs, runs}
 use Rattle.css_model.proofs.PartLemmas.{parts_in-cons, parts_in-stop, parts_in-nil, parts_in-are, Fronts, fronts}
@@ -24,7 +24,7 @@ bounds-9 cs k b comments = inl refl
 bounds-9 cs k b whites = inr b
 bounds-9 cs k b quotes = inl refl
 bounds-9 cs k b numbers = inl refl
-bounds-9 cs k b names = inl (ap begins_identifier (parts_in-stop in_name 9 cs refl))
+bounds-9 cs k b names = inl (ap would_start_ident (parts_in-stop in_name 9 cs refl))
 bounds-9 cs k b cdcs = inl refl
 bounds-9 cs k b cdos = inl refl
 bounds-9 cs k b hashes = inl refl
@@ -35,7 +35,7 @@ bounds-10 cs k b comments = inl refl
 bounds-10 cs k b whites = inr b
 bounds-10 cs k b quotes = inl refl
 bounds-10 cs k b numbers = inl refl
-bounds-10 cs k b names = inl (ap begins_identifier (parts_in-stop in_name 10 cs refl))
+bounds-10 cs k b names = inl (ap would_start_ident (parts_in-stop in_name 10 cs refl))
 bounds-10 cs k b cdcs = inl refl
 bounds-10 cs k b cdos = inl refl
 bounds-10 cs k b hashes = inl refl
@@ -46,7 +46,7 @@ bounds-32 cs k b comments = inl refl
 bounds-32 cs k b whites = inr b
 bounds-32 cs k b quotes = inl refl
 bounds-32 cs k b numbers = inl refl
-bounds-32 cs k b names = inl (ap begins_identifier (parts_in-stop in_name 32 cs refl))
+bounds-32 cs k b names = inl (ap would_start_ident (parts_in-stop in_name 32 cs refl))
 bounds-32 cs k b cdcs = inl refl
 bounds-32 cs k b cdos = inl refl
 bounds-32 cs k b hashes = inl refl
@@ -57,7 +57,7 @@ bounds-34 cs k b comments = inl refl
 bounds-34 cs k b whites = inl refl
 bounds-34 cs k b quotes = inr b
 bounds-34 cs k b numbers = inl refl
-bounds-34 cs k b names = inl (ap begins_identifier (parts_in-stop in_name 34 cs refl))
+bounds-34 cs k b names = inl (ap would_start_ident (parts_in-stop in_name 34 cs refl))
 bounds-34 cs k b cdcs = inl refl
 bounds-34 cs k b cdos = inl refl
 bounds-34 cs k b hashes = inl refl
@@ -68,7 +68,7 @@ bounds-39 cs k b comments = inl refl
 bounds-39 cs k b whites = inl refl
 bounds-39 cs k b quotes = inr b
 bounds-39 cs k b numbers = inl refl
-bounds-39 cs k b names = inl (ap begins_identifier (parts_in-stop in_name 39 cs refl))
+bounds-39 cs k b names = inl (ap would_start_ident (parts_in-stop in_name 39 cs refl))
 bounds-39 cs k b cdcs = inl refl
 bounds-39 cs k b cdos = inl refl
 bounds-39 cs k b hashes = inl refl
@@ -79,13 +79,13 @@ bounds-47 cs k b comments = inr b
 bounds-47 cs k b whites = inl refl
 bounds-47 cs k b quotes = inl refl
 bounds-47 cs k b numbers = inl refl
-bounds-47 cs k b names = inl (ap begins_identifier (parts_in-stop in_name 47 cs refl))
+bounds-47 cs k b names = inl (ap would_start_ident (parts_in-stop in_name 47 cs refl))
 bounds-47 cs k b cdcs = inl refl
 bounds-47 cs k b cdos = inl refl
 bounds-47 cs k b hashes = inl refl
 bounds-47 cs k b ats = inl refl
 
-bounds-white : (c : ℕ) (cs : Text) (k : ℕ) → is_white c ≡ true → Bound whites (c ∷ cs) k → Bounds (c ∷ cs) k
+bounds-white : (c : ℕ) (cs : Text) (k : ℕ) → is_whitespace c ≡ true → Bound whites (c ∷ cs) k → Bounds (c ∷ cs) k
 bounds-white c cs k h b = elim (or-cases (is_newline c) ((c == 9) || (c == 32)) h) [
   | inl t ↦ subst (λ x. Bound whites (x ∷ cs) k → Bounds (x ∷ cs) k) (sym (eqb-true c 10 t)) (bounds-10 cs k) b
   | inr t ↦ elim (or-cases (c == 9) (c == 32) t) [
@@ -100,20 +100,20 @@ bounds-quote c cs k h b = elim (or-cases (c == 34) (c == 39) h) [
   | inr u ↦ subst (λ x. Bound quotes (x ∷ cs) k → Bounds (x ∷ cs) k) (sym (eqb-true c 39 u)) (bounds-39 cs k) b
 ]
 
--- ---- white space
+-- ---- whitespace
 
-pub white-first : (c : ℕ) (cs : Text) → is_white c ≡ true → IsFirst (token white_space (run_in is_white (c ∷ cs))) (c ∷ cs)
+pub white-first : (c : ℕ) (cs : Text) → is_whitespace c ≡ true → IsFirst (token whitespace (run_in is_whitespace (c ∷ cs))) (c ∷ cs)
 white-first c cs h =
-    let run : Runs is_white (c ∷ cs) = runs is_white (c ∷ cs) in
-    let is : run_in is_white (c ∷ cs) ≡ c ∷ run_in is_white cs = pick-true (is_white c) (c ∷ run_in is_white cs) [] h in
-    let some : 1 ≤ length (run_in is_white (c ∷ cs)) = subst (λ xs. 1 ≤ length xs) (sym is) (omega arith) in
+    let run : Runs is_whitespace (c ∷ cs) = runs is_whitespace (c ∷ cs) in
+    let is : run_in is_whitespace (c ∷ cs) ≡ c ∷ run_in is_whitespace cs = pick-true (is_whitespace c) (c ∷ run_in is_whitespace cs) [] h in
+    let some : 1 ≤ length (run_in is_whitespace (c ∷ cs)) = subst (λ xs. 1 ≤ length xs) (sym is) (omega arith) in
     record {
-      rest = drop (length (run_in is_white (c ∷ cs))) (c ∷ cs);
+      rest = drop (length (run_in is_whitespace (c ∷ cs))) (c ∷ cs);
       joins = run.joins;
       some = some;
       is = (run.passes, ap is_empty is);
-      longest = longest (c ∷ cs) (length (run_in is_white (c ∷ cs))) some (bounds-white c cs (length (run_in is_white (c ∷ cs))) h
-          (λ s behind e i. subst (λ xs. length s ≤ length (run_in is_white xs)) e (run_in-longest is_white s behind i.0)));
+      longest = longest (c ∷ cs) (length (run_in is_whitespace (c ∷ cs))) some (bounds-white c cs (length (run_in is_whitespace (c ∷ cs))) h
+          (λ s behind e i. subst (λ xs. length s ≤ length (run_in is_whitespace xs)) e (run_in-longest is_whitespace s behind i.0)));
     }
 
 -- ---- parts up to a mark
@@ -192,11 +192,11 @@ string-bound quote cs h = (
 escape-in-string : (quote : ℕ) (cs : Text) → in_string quote (escape_in cs) ≡ true
 escape-in-string quote [] = refl
 escape-in-string quote (d ∷ cs) = elim (cases_Bool (is_newline d)) [
-  | inl t ↦ ap (in_string quote) (pick-true (is_newline d) joined (if is_hex_digit d then code_in (d ∷ cs) else escaped d) t)
-  | inr f ↦ ap (in_string quote) (pick-false (is_newline d) joined (if is_hex_digit d then code_in (d ∷ cs) else escaped d) f)
+  | inl t ↦ ap (in_string quote) (pick-true (is_newline d) escaped_newline (if is_hex_digit d then hex_escape_in (d ∷ cs) else escaped d) t)
+  | inr f ↦ ap (in_string quote) (pick-false (is_newline d) escaped_newline (if is_hex_digit d then hex_escape_in (d ∷ cs) else escaped d) f)
       ∙ elim (cases_Bool (is_hex_digit d)) [
-        | inl t ↦ ap (in_string quote) (pick-true (is_hex_digit d) (code_in (d ∷ cs)) (escaped d) t)
-        | inr n ↦ ap (in_string quote) (pick-false (is_hex_digit d) (code_in (d ∷ cs)) (escaped d) n)
+        | inl t ↦ ap (in_string quote) (pick-true (is_hex_digit d) (hex_escape_in (d ∷ cs)) (escaped d) t)
+        | inr n ↦ ap (in_string quote) (pick-false (is_hex_digit d) (hex_escape_in (d ∷ cs)) (escaped d) n)
       ]
 ]
 
@@ -264,5 +264,5 @@ string-at quote cs (d ∷ ds) h e =
           })
     ]
 
-pub string-first : (quote : ℕ) (cs : Text) → is_quote quote ≡ true → IsFirst (string_piece quote cs) (quote ∷ cs)
+pub string-first : (quote : ℕ) (cs : Text) → is_quote quote ≡ true → IsFirst (consume_string quote cs) (quote ∷ cs)
 string-first quote cs h = string-at quote cs (behind_parts (parts_in (in_string quote) cs) cs) h refl

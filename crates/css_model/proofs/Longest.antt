@@ -2,11 +2,11 @@
 use Rattle.std.proofs.Common.{◌≡◌, ◌⊎◌, ◌∙◌, sym, ap, ℕ, ◌≤◌, ◌==◌, ◌++◌, length, Bool, true, false, arith, inl, inr}
 use Rattle.std.proofs.lemmas.Bool.{true≢false}
 use Rattle.std.specs.Prelude.{codes}
-use Rattle.css_model.specs.Classes.{Text, is_white, is_quote, begins}
-use Rattle.css_model.specs.Tokens.{Number, Kind, ident, function, at_keyword, hash, string, bad_string, url, bad_url, delim, number, percentage, dimension, white_space, cdo, cdc, colon, semicolon, comma, opening, closing}
+use Rattle.css_model.specs.Classes.{Text, is_whitespace, is_quote, begins}
+use Rattle.css_model.specs.Tokens.{Number, Kind, ident, function, at_keyword, hash, string, bad_string, url, bad_url, delim, number, percentage, dimension, whitespace, cdo, cdc, colon, semicolon, comma, opening, closing}
 use Rattle.css_model.specs.Spellings.{Spells}
 use Rattle.css_model.specs.TokenList.{Piece, comment, token, piece_text, IsComment, IsPiece}
-use Rattle.css_model.specs.Fronts.{begins_number}
+use Rattle.css_model.specs.Fronts.{would_start_number}
 use Rattle.css_model.specs.Pieces.{has_front}
 use Rattle.css_model.proofs.Demands.{begins_name, demands, piece-demands}
 
@@ -24,9 +24,9 @@ pub data Group : Type 0 where
 
 abbrev pub test : Group → Text → Bool
 test comments cs = has_front (codes "/*") cs
-test whites cs = begins is_white cs
+test whites cs = begins is_whitespace cs
 test quotes cs = begins is_quote cs
-test numbers cs = begins_number cs
+test numbers cs = would_start_number cs
 test names cs = begins_name cs
 test cdcs cs = has_front (codes "-->") cs
 test cdos cs = has_front (codes "<!--") cs
@@ -36,7 +36,7 @@ test ats cs = begins (λ c. c == 64) cs
 -- no piece of these classes in front of the text is longer than k
 abbrev pub Bound : Group → Text → ℕ → Type 0
 Bound comments cs k = (s behind : Text) → s ++ behind ≡ cs → IsComment s behind → length s ≤ k
-Bound whites cs k = (s behind : Text) → s ++ behind ≡ cs → Spells white_space s behind → length s ≤ k
+Bound whites cs k = (s behind : Text) → s ++ behind ≡ cs → Spells whitespace s behind → length s ≤ k
 Bound quotes cs k = ((value : Text) (s behind : Text) → s ++ behind ≡ cs → Spells (string value) s behind → length s ≤ k) × ((s behind : Text) → s ++ behind ≡ cs → Spells bad_string s behind → length s ≤ k)
 Bound numbers cs k = ((n : Number) (s behind : Text) → s ++ behind ≡ cs → Spells (number n) s behind → length s ≤ k) × ((n : Number) (s behind : Text) → s ++ behind ≡ cs → Spells (percentage n) s behind → length s ≤ k) × ((n : Number) (unit : Text) (s behind : Text) → s ++ behind ≡ cs → Spells (dimension n unit) s behind → length s ≤ k)
 Bound names cs k = ((name : Text) (s behind : Text) → s ++ behind ≡ cs → Spells (ident name) s behind → length s ≤ k) × ((name : Text) (s behind : Text) → s ++ behind ≡ cs → Spells (function name) s behind → length s ≤ k) × ((value : Text) (s behind : Text) → s ++ behind ≡ cs → Spells (url value) s behind → length s ≤ k) × ((s behind : Text) → s ++ behind ≡ cs → Spells bad_url s behind → length s ≤ k)
@@ -64,7 +64,7 @@ kind-longest cs k l bounds bad_url s behind e h = (bound names cs k bounds (ap (
 kind-longest cs k l bounds (number n) s behind e h = (bound numbers cs k bounds (ap (test numbers) (sym e) ∙ demands (number n) s behind h)).0 n s behind e h
 kind-longest cs k l bounds (percentage n) s behind e h = (bound numbers cs k bounds (ap (test numbers) (sym e) ∙ demands (percentage n) s behind h)).1 n s behind e h
 kind-longest cs k l bounds (dimension n unit) s behind e h = (bound numbers cs k bounds (ap (test numbers) (sym e) ∙ demands (dimension n unit) s behind h)).2 n unit s behind e h
-kind-longest cs k l bounds white_space s behind e h = (bound whites cs k bounds (ap (test whites) (sym e) ∙ demands white_space s behind h)) s behind e h
+kind-longest cs k l bounds whitespace s behind e h = (bound whites cs k bounds (ap (test whites) (sym e) ∙ demands whitespace s behind h)) s behind e h
 kind-longest cs k l bounds cdo s behind e h = (bound cdos cs k bounds (ap (test cdos) (sym e) ∙ demands cdo s behind h)) s behind e h
 kind-longest cs k l bounds cdc s behind e h = (bound cdcs cs k bounds (ap (test cdcs) (sym e) ∙ demands cdc s behind h)) s behind e h
 kind-longest cs k l bounds (delim c) s behind e h = let one : length s ≡ 1 = demands (delim c) s behind h in omega (arith, l, one)

@@ -5,7 +5,7 @@ use Rattle.std.proofs.lemmas.List.{append_cancel_right}
 use Rattle.css_model.specs.Classes.{Text}
 use Rattle.css_model.specs.Tokens.{Kind}
 use Rattle.css_model.specs.Parts.{Part, parts_text, AreParts, meaning, in_name}
-use Rattle.css_model.specs.Spellings.{begins_identifier, IsName, Spells}
+use Rattle.css_model.specs.Spellings.{would_start_ident, IsName, Spells}
 use Rattle.css_model.specs.TokenList.{Piece, token, piece_text, IsPiece}
 use Rattle.css_model.specs.Fronts.{parts_in}
 use Rattle.css_model.proofs.PartLemmas.{parts_in-are}
@@ -29,4 +29,4 @@ parts-same allowed xs ys rest h k e =
 pub name-same : (a b : Text) (i j : Bool) (s rest : Text) → IsName a i s rest → IsName b j s rest → (a ≡ b) × (i ≡ j)
 name-same a b i j s rest h k =
     let same : h.parts ≡ k.parts = parts-same in_name h.parts k.parts rest h.are_parts k.are_parts (sym h.spelling ∙ k.spelling) in
-    (sym h.means ∙ (ap (flat_map meaning) same ∙ k.means), sym h.identifier ∙ (ap begins_identifier same ∙ k.identifier))
+    (sym h.means ∙ (ap (flat_map meaning) same ∙ k.means), sym h.identifier ∙ (ap would_start_ident same ∙ k.identifier))

@@ -2,13 +2,13 @@
 use Rattle.std.proofs.Common.{◌≡◌, ◌∙◌, sym, ap, refl, subst, ℕ, ◌+◌, ◌≤◌, ◌==◌, List, [], ◌∷◌, ◌++◌, length, drop, true, false, ◌&&◌, not, arith, length-append, inl, inr}
 use Rattle.std.proofs.lemmas.Bool.{cases_Bool, true≢false, false≢true, cond_both}
 use Rattle.std.specs.Prelude.{codes, flat_map, if◌then◌else◌}
-use Rattle.css_model.specs.Classes.{Text, open_round, is_white, begins}
+use Rattle.css_model.specs.Classes.{Text, open_round, is_whitespace, begins}
 use Rattle.css_model.specs.Tokens.{Kind, ident, function, url, bad_url, cdc, cdo}
 use Rattle.css_model.specs.Parts.{Part, parts_text, meaning, in_name, in_url}
-use Rattle.css_model.specs.Spellings.{begins_identifier, quote_follows, is_url_name, IsName, IsFunction, IsUrl, IsBadUrl}
+use Rattle.css_model.specs.Spellings.{would_start_ident, quote_follows, is_url_name, IsName, IsFunction, IsUrl, IsBadUrl}
 use Rattle.css_model.specs.TokenList.{Piece, token}
-use Rattle.css_model.specs.Fronts.{one_in, run_in, part_in, parts_in, behind_parts, begins_number}
-use Rattle.css_model.specs.Pieces.{has_front, is_close_round, bad_url_piece, url_piece, name_piece, marked_piece}
+use Rattle.css_model.specs.Fronts.{one_in, run_in, part_in, parts_in, behind_parts, would_start_number}
+use Rattle.css_model.specs.Pieces.{has_front, is_close_round, consume_bad_url_remnants, consume_url, consume_ident_like, marked_piece}
 use Rattle.css_model.proofs.Tests.{pick-true}
 use Rattle.css_model.proofs.PartLemmas.{parts_in-nil, parts_in-stop}
 use Rattle.css_model.proofs.Demands.{begins_name}
@@ -80,8 +80,8 @@ url-same a b s rest h k =
     let mine : UrlHeaded h.head (h.before ++ (parts_text h.parts ++ (h.after ++ (h.end ++ rest)))) (s ++ rest) = url-headed a s rest (s ++ rest) refl h in
     let theirs : UrlHeaded k.head (k.before ++ (parts_text k.parts ++ (k.after ++ (k.end ++ rest)))) (s ++ rest) = url-headed b s rest (s ++ rest) refl k in
     let same : h.before ++ (parts_text h.parts ++ (h.after ++ (h.end ++ rest))) ≡ k.before ++ (parts_text k.parts ++ (k.after ++ (k.end ++ rest))) = ap (drop 1) (sym mine.behind ∙ theirs.behind) in
-    let parts : h.parts ≡ k.parts = sym (url-parts h.before h.after h.end rest h.parts h.white_before h.are_parts h.white_after h.ends)
-    ∙ (ap (λ xs. parts_in in_url (after_white xs)) same ∙ url-parts k.before k.after k.end rest k.parts k.white_before k.are_parts k.white_after k.ends) in
+    let parts : h.parts ≡ k.parts = sym (url-parts h.before h.after h.end rest h.parts h.whitespace_before h.are_parts h.whitespace_after h.ends)
+    ∙ (ap (λ xs. parts_in in_url (after_white xs)) same ∙ url-parts k.before k.after k.end rest k.parts k.whitespace_before k.are_parts k.whitespace_after k.ends) in
     sym h.means ∙ (ap (flat_map meaning) parts ∙ k.means)
 
 -- ---- each of them against all
@@ -150,18 +150,18 @@ bad_url-are s rest h = record {
 
 -- ---- the first piece
 
-url-meets : (kind : Kind) (s rest : Text) → NamesAre kind s rest → (head inside : Text) → Meets kind s rest (url_piece head inside)
+url-meets : (kind : Kind) (s rest : Text) → NamesAre kind s rest → (head inside : Text) → Meets kind s rest (consume_url head inside)
 url-meets kind s rest are head inside = cond_both (is_closed (after_white (after_parts (after_white inside))))
-    (token (url (flat_map meaning (parts_in in_url (after_white inside)))) (head ++ (run_in is_white inside ++ (parts_text (parts_in in_url (after_white inside)) ++ (run_in is_white (after_parts (after_white inside)) ++ one_in is_close_round (after_white (after_parts (after_white inside))))))))
-    (bad_url_piece head inside) (Meets kind s rest)
+    (token (url (flat_map meaning (parts_in in_url (after_white inside)))) (head ++ (run_in is_whitespace inside ++ (parts_text (parts_in in_url (after_white inside)) ++ (run_in is_whitespace (after_parts (after_white inside)) ++ one_in is_close_round (after_white (after_parts (after_white inside))))))))
+    (consume_bad_url_remnants head inside) (Meets kind s rest)
     (λ t. meet _ _ _ _ _ (are.as_url (flat_map meaning (parts_in in_url (after_white inside)))))
     (λ n. meet _ _ _ _ _ are.as_bad_url)
 
-name-meets : (kind : Kind) (s rest : Text) → NamesAre kind s rest → (parts : List Part) (behind : Text) → Meets kind s rest (name_piece parts behind)
+name-meets : (kind : Kind) (s rest : Text) → NamesAre kind s rest → (parts : List Part) (behind : Text) → Meets kind s rest (consume_ident_like parts behind)
 name-meets kind s rest are parts [] = meet _ _ _ _ _ (are.as_ident (flat_map meaning parts))
 name-meets kind s rest are parts (d ∷ ds) =
     let name : Text = flat_map meaning parts in
-    let as_url : Piece = url_piece (parts_text parts ++ codes "(") ds in
+    let as_url : Piece = consume_url (parts_text parts ++ codes "(") ds in
     let as_function : Piece = token (function name) (parts_text parts ++ codes "(") in
     let as_ident : Piece = token (ident name) (parts_text parts) in
     cond_both (d == open_round) (if is_url_name name && not (quote_follows ds) then as_url else as_function) as_ident (Meets kind s rest)
@@ -170,20 +170,20 @@ name-meets kind s rest are parts (d ∷ ds) =
     (λ n. meet _ _ _ _ _ (are.as_function (flat_map meaning parts))))
     (λ n. meet _ _ _ _ _ (are.as_ident (flat_map meaning parts)))
 
-name-no_number : (cs : Text) → begins_name cs ≡ true → begins_number cs ≡ false
-name-no_number cs h = elim (cases_Bool (begins_number cs)) [ inl t ↦ absurd (true≢false (sym h ∙ number-no_name cs t)) | inr f ↦ f ]
+name-no_number : (cs : Text) → begins_name cs ≡ true → would_start_number cs ≡ false
+name-no_number cs h = elim (cases_Bool (would_start_number cs)) [ inl t ↦ absurd (true≢false (sym h ∙ number-no_name cs t)) | inr f ↦ f ]
 
 pub names-first : (kind : Kind) (s rest : Text) → NamesAre kind s rest → (cs : Text) → begins_name cs ≡ true → Meets kind s rest (first_of cs)
-names-first kind s rest are [] h = absurd (false≢true (sym (ap begins_identifier (parts_in-nil in_name)) ∙ h))
+names-first kind s rest are [] h = absurd (false≢true (sym (ap would_start_ident (parts_in-nil in_name)) ∙ h))
 names-first kind s rest are (c ∷ cs) h =
     let parts : List Part = parts_in in_name (c ∷ cs) in
     let no : (d : ℕ) → begins_name (d ∷ cs) ≡ false → c == d ≡ false = λ d f. other-char c d cs h f in
-    let stop : (d : ℕ) → in_name (part_in d cs) ≡ false → c == d ≡ false = λ d f. no d (ap begins_identifier (parts_in-stop in_name d cs f)) in
-    let as_name : Piece = name_piece parts (behind_parts parts (c ∷ cs)) in
+    let stop : (d : ℕ) → in_name (part_in d cs) ≡ false → c == d ≡ false = λ d f. no d (ap would_start_ident (parts_in-stop in_name d cs f)) in
+    let as_name : Piece = consume_ident_like parts (behind_parts parts (c ∷ cs)) in
     let as_mark : Piece = if has_front (codes "<!--") (c ∷ cs) then token cdo (codes "<!--") else marked_piece c (parts_in in_name cs) in
     subst (Meets kind s rest)
     (sym (past-comment c cs (rw (stop 10 refl) (rw (stop 9 refl) (stop 32 refl))) (rw (stop 34 refl) (stop 39 refl)) (ap (λ b. b && has_front (codes "*") cs) (stop 47 refl))
     ∙ past-number c cs (name-no_number (c ∷ cs) h)))
-    (cond_both (has_front (codes "-->") (c ∷ cs)) (token cdc (codes "-->")) (if begins_identifier parts then as_name else as_mark) (Meets kind s rest)
+    (cond_both (has_front (codes "-->") (c ∷ cs)) (token cdc (codes "-->")) (if would_start_ident parts then as_name else as_mark) (Meets kind s rest)
     (λ t e i. absurd (are.no_cdc (sym e)))
-    (λ n. subst (Meets kind s rest) (sym (pick-true (begins_identifier parts) as_name as_mark h)) (name-meets kind s rest are parts (behind_parts parts (c ∷ cs)))))
+    (λ n. subst (Meets kind s rest) (sym (pick-true (would_start_ident parts) as_name as_mark h)) (name-meets kind s rest are parts (behind_parts parts (c ∷ cs)))))

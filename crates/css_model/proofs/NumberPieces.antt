@@ -7,9 +7,9 @@ use Rattle.css_model.specs.Classes.{Text, is_digit, is_sign, is_e, begins, is_em
 use Rattle.css_model.specs.Tokens.{number, percentage, dimension}
 use Rattle.css_model.specs.Parts.{Part, parts_text, meaning, in_name}
 use Rattle.css_model.specs.Numerals.{Numeral, fraction_text, numeral_text, IsNumeral, begins_signed_digit, begins_exponent, number_of}
-use Rattle.css_model.specs.Spellings.{begins_identifier, IsName}
+use Rattle.css_model.specs.Spellings.{would_start_ident, IsName}
 use Rattle.css_model.specs.TokenList.{Piece, token, piece_text, IsPiece, IsTokenList}
-use Rattle.css_model.specs.Fronts.{parts_in, behind_parts, begins_number, numeral_in}
+use Rattle.css_model.specs.Fronts.{parts_in, behind_parts, would_start_number, numeral_in}
 use Rattle.css_model.specs.Pieces.{has_front, tokens}
 use Rattle.css_model.proofs.Tests.{and-left, and-right, both, or-left, or-cases}
 use Rattle.css_model.proofs.PartLemmas.{parts_in-stop, Fronts, fronts}
@@ -67,11 +67,11 @@ numbers-bound cs k l percent unit = (
 
 -- ---- other classes
 
-pub number-char : (c d : ℕ) (cs : Text) → begins_number (c ∷ cs) ≡ true → begins_number (d ∷ cs) ≡ false → c == d ≡ false
-number-char c d cs h f = elim (cases_Bool (c == d)) [ inl t ↦ absurd (true≢false (sym (ap (λ x. begins_number (x ∷ cs)) (sym (eqb-true c d t)) ∙ h) ∙ f)) | inr n ↦ n ]
+pub number-char : (c d : ℕ) (cs : Text) → would_start_number (c ∷ cs) ≡ true → would_start_number (d ∷ cs) ≡ false → c == d ≡ false
+number-char c d cs h f = elim (cases_Bool (c == d)) [ inl t ↦ absurd (true≢false (sym (ap (λ x. would_start_number (x ∷ cs)) (sym (eqb-true c d t)) ∙ h) ∙ f)) | inr n ↦ n ]
 
-number-no_cdc : (cs : Text) → begins_number cs ≡ true → has_front (codes "-->") cs ≡ false
-number-no_cdc cs h = elim (cases_Bool (has_front (codes "-->") cs)) [ inl t ↦ absurd (true≢false (sym (ap begins_number (front-is (codes "-->") cs t) ∙ h))) | inr f ↦ f ]
+number-no_cdc : (cs : Text) → would_start_number cs ≡ true → has_front (codes "-->") cs ≡ false
+number-no_cdc cs h = elim (cases_Bool (has_front (codes "-->") cs)) [ inl t ↦ absurd (true≢false (sym (ap would_start_number (front-is (codes "-->") cs t) ∙ h))) | inr f ↦ f ]
 
 bounds-numbered : (c : ℕ) (cs : Text) (k : ℕ) → Numbered (c ∷ cs) → Bound numbers (c ∷ cs) k → Bounds (c ∷ cs) k
 bounds-numbered c cs k o b comments = inl o.comment
@@ -115,7 +115,7 @@ numeral-some w h =
     rw (numeral-length w) (omega (arith, l, f))
 
 pub percent-no_name : (cs behind : Text) → cs ≡ codes "%" ++ behind → begins_name cs ≡ false
-percent-no_name cs behind e = ap begins_name e ∙ ap begins_identifier (parts_in-stop in_name 37 behind refl)
+percent-no_name cs behind e = ap begins_name e ∙ ap would_start_ident (parts_in-stop in_name 37 behind refl)
 
 name-there : (cs unit tail behind : Text) → cs ≡ tail ++ behind → IsName unit true tail behind → begins_name cs ≡ true
 name-there cs unit tail behind e i = ap begins_name e ∙ name-demands unit tail behind i
@@ -152,7 +152,7 @@ numbers-first c cs o =
     let as_percentage : Piece = token (percentage (number_of w)) (numeral_text w ++ codes "%") in
     let as_number : Piece = token (number (number_of w)) (numeral_text w ++ []) in
     let exponent : is_empty w.exponent && begins_exponent (parts_text unit ++ behind_parts unit left) ≡ false = ap (λ xs. is_empty w.exponent && begins_exponent xs) (f.joins ∙ there) ∙ n.ends in
-    cond_both (begins_identifier unit) as_dimension (if has_front (codes "%") left then as_percentage else as_number) (λ p. IsFirst p (c ∷ cs))
+    cond_both (would_start_ident unit) as_dimension (if has_front (codes "%") left then as_percentage else as_number) (λ p. IsFirst p (c ∷ cs))
     (λ t. number-made c cs (parts_text unit) (behind_parts unit left) as_dimension o refl f.joins
     (record { numeral = w; tail = parts_text unit; spelling = refl; is_numeral = n.is; value = refl; is_unit = record { parts = unit; spelling = refl; are_parts = f.are; means = refl; identifier = t }; longest_number = no-exponent-front (is_empty w.exponent) (parts_text unit) (behind_parts unit left) exponent })
     (λ behind e. absurd (true≢false (sym t ∙ percent-no_name left behind e)))

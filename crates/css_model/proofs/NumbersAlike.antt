@@ -7,10 +7,10 @@ use Rattle.css_model.specs.Classes.{Text, is_empty}
 use Rattle.css_model.specs.Tokens.{Number, Kind, number, percentage, dimension}
 use Rattle.css_model.specs.Parts.{Part, parts_text, meaning, in_name}
 use Rattle.css_model.specs.Numerals.{Numeral, numeral_text, number_of}
-use Rattle.css_model.specs.Spellings.{begins_identifier, IsName, IsNumber, IsDimension}
+use Rattle.css_model.specs.Spellings.{would_start_ident, IsName, IsNumber, IsDimension}
 use Rattle.css_model.specs.TokenList.{Piece, token}
-use Rattle.css_model.specs.Fronts.{parts_in, begins_number, numeral_in}
-use Rattle.css_model.specs.Pieces.{has_front, number_piece, behind_number, other_piece}
+use Rattle.css_model.specs.Fronts.{parts_in, would_start_number, numeral_in}
+use Rattle.css_model.specs.Pieces.{has_front, numeric_of_parts, consume_numeric, other_piece}
 use Rattle.css_model.proofs.Tests.{pick-true}
 use Rattle.css_model.proofs.Demands.{name-demands}
 use Rattle.css_model.proofs.FirstComments.{and-zero}
@@ -114,23 +114,23 @@ dimension-are n unit s rest h = record {
 
 -- ---- the first piece
 
-number-meets : (kind : Kind) (s rest : Text) → NumbersAre kind s rest → (w : Numeral) (unit : List Part) (cs : Text) → Meets kind s rest (number_piece w unit cs)
+number-meets : (kind : Kind) (s rest : Text) → NumbersAre kind s rest → (w : Numeral) (unit : List Part) (cs : Text) → Meets kind s rest (numeric_of_parts w unit cs)
 number-meets kind s rest are w unit cs =
     let as_dimension : Piece = token (dimension (number_of w) (flat_map meaning unit)) (numeral_text w ++ parts_text unit) in
     let as_percentage : Piece = token (percentage (number_of w)) (numeral_text w ++ codes "%") in
     let as_number : Piece = token (number (number_of w)) (numeral_text w ++ []) in
-    cond_both (begins_identifier unit) as_dimension (if has_front (codes "%") cs then as_percentage else as_number) (Meets kind s rest)
+    cond_both (would_start_ident unit) as_dimension (if has_front (codes "%") cs then as_percentage else as_number) (Meets kind s rest)
     (λ t. meet _ _ _ _ _ (are.as_dimension (number_of w) (flat_map meaning unit)))
     (λ m. cond_both (has_front (codes "%") cs) as_percentage as_number (Meets kind s rest)
     (λ t. meet _ _ _ _ rest (are.as_percentage (number_of w)))
     (λ n. meet _ _ _ _ rest (are.as_number (number_of w))))
 
-pub numbers-first : (kind : Kind) (s rest : Text) → NumbersAre kind s rest → (cs : Text) → begins_number cs ≡ true → Meets kind s rest (first_of cs)
+pub numbers-first : (kind : Kind) (s rest : Text) → NumbersAre kind s rest → (cs : Text) → would_start_number cs ≡ true → Meets kind s rest (first_of cs)
 numbers-first kind s rest are [] h = absurd (false≢true h)
 numbers-first kind s rest are (c ∷ cs) h =
-    let no : (d : ℕ) → begins_number (d ∷ cs) ≡ false → c == d ≡ false = λ d f. number-char c d cs h f in
+    let no : (d : ℕ) → would_start_number (d ∷ cs) ≡ false → c == d ≡ false = λ d f. number-char c d cs h f in
     let left : Text = behind_numeral (c ∷ cs) in
     subst (Meets kind s rest)
     (sym (past-comment c cs (rw (no 10 refl) (rw (no 9 refl) (no 32 refl))) (rw (no 34 refl) (no 39 refl)) (ap (λ b. b && has_front (codes "*") cs) (no 47 refl))
-    ∙ pick-true (begins_number (c ∷ cs)) (behind_number (numeral_in (c ∷ cs)) left) (other_piece (parts_in in_name (c ∷ cs)) c cs) h))
+    ∙ pick-true (would_start_number (c ∷ cs)) (consume_numeric (numeral_in (c ∷ cs)) left) (other_piece (parts_in in_name (c ∷ cs)) c cs) h))
     (number-meets kind s rest are (numeral_in (c ∷ cs)) (parts_in in_name left) left)

@@ -4,7 +4,7 @@ use Rattle.std.proofs.lemmas.Bool.{cases_Bool, true≢false, false≢true}
 use Rattle.std.specs.List.{list_all}
 use Rattle.css_model.specs.Classes.{Text, full_stop, is_digit, is_sign, begins, is_empty}
 use Rattle.css_model.specs.Numerals.{Numeral, fraction_text, exponent_text, numeral_text, is_at_most_one, IsNumeral}
-use Rattle.css_model.specs.Fronts.{begins_unsigned, begins_number}
+use Rattle.css_model.specs.Fronts.{begins_unsigned, would_start_number}
 use Rattle.css_model.proofs.Tests.{and-left, and-right, or-left, or-cases, pick-true, pick-false}
 
 -- a sign is no digit
@@ -29,20 +29,20 @@ unsigned (d ∷ ds) fraction behind w f s =
 unsigned [] [] behind w f s = absurd (true≢false s)
 unsigned [] (d ∷ ds) behind w f s = record { number = and-left (is_digit d) (list_all is_digit ds) f; no_sign = refl }
 
-begins_number-unsigned : (cs : Text) → Unsigned cs → begins_number cs ≡ true
-begins_number-unsigned [] u = u.number
-begins_number-unsigned (c ∷ cs) u = ap begins_unsigned (pick-false (is_sign c) cs (c ∷ cs) u.no_sign) ∙ u.number
+would_start_number-unsigned : (cs : Text) → Unsigned cs → would_start_number cs ≡ true
+would_start_number-unsigned [] u = u.number
+would_start_number-unsigned (c ∷ cs) u = ap begins_unsigned (pick-false (is_sign c) cs (c ∷ cs) u.no_sign) ∙ u.number
 
-begins_number-signed : (sign cs : Text) → is_at_most_one is_sign sign ≡ true → Unsigned cs → begins_number (sign ++ cs) ≡ true
-begins_number-signed [] cs s u = begins_number-unsigned cs u
-begins_number-signed (c ∷ []) cs s u = ap begins_unsigned (pick-true (is_sign c) cs (c ∷ cs) (and-left (is_sign c) true s)) ∙ u.number
-begins_number-signed (c ∷ d ∷ ds) cs s u = absurd (false≢true (and-right (is_sign c) false s))
+would_start_number-signed : (sign cs : Text) → is_at_most_one is_sign sign ≡ true → Unsigned cs → would_start_number (sign ++ cs) ≡ true
+would_start_number-signed [] cs s u = would_start_number-unsigned cs u
+would_start_number-signed (c ∷ []) cs s u = ap begins_unsigned (pick-true (is_sign c) cs (c ∷ cs) (and-left (is_sign c) true s)) ∙ u.number
+would_start_number-signed (c ∷ d ∷ ds) cs s u = absurd (false≢true (and-right (is_sign c) false s))
 
 -- a number of the definition begins as numbers do
-pub numeral-begins : (w : Numeral) (rest : Text) → IsNumeral w → begins_number (numeral_text w ++ rest) ≡ true
+pub numeral-begins : (w : Numeral) (rest : Text) → IsNumeral w → would_start_number (numeral_text w ++ rest) ≡ true
 numeral-begins w rest h =
     let unjoined : numeral_text w ++ rest ≡ w.sign ++ (w.whole ++ (fraction_text w.fraction ++ (exponent_text w ++ rest))) =
     append_assoc w.sign (w.whole ++ (fraction_text w.fraction ++ exponent_text w)) rest
     ∙ ap (λ xs. w.sign ++ xs) (append_assoc w.whole (fraction_text w.fraction ++ exponent_text w) rest
     ∙ ap (λ xs. w.whole ++ xs) (append_assoc (fraction_text w.fraction) (exponent_text w) rest)) in
-    ap begins_number unjoined ∙ begins_number-signed w.sign (w.whole ++ (fraction_text w.fraction ++ (exponent_text w ++ rest))) h.sign (unsigned w.whole w.fraction (exponent_text w ++ rest) h.whole h.fraction h.some_digit)
+    ap would_start_number unjoined ∙ would_start_number-signed w.sign (w.whole ++ (fraction_text w.fraction ++ (exponent_text w ++ rest))) h.sign (unsigned w.whole w.fraction (exponent_text w ++ rest) h.whole h.fraction h.some_digit)

@@ -2,13 +2,13 @@
 use Rattle.std.proofs.Common.{◌≡◌, ◌∙◌, sym, ap, refl, subst, ℕ, suc, ◌+◌, ◌≤◌, ◌==◌, List, [], ◌∷◌, ◌++◌, length, drop, Bool, true, false, ◌&&◌, not, arith, length-append}
 use Rattle.std.proofs.lemmas.Bool.{false≢true, cond_both}
 use Rattle.std.specs.Prelude.{codes, flat_map, if◌then◌else◌}
-use Rattle.css_model.specs.Classes.{Text, backslash, is_digit, is_name_start, is_white, is_quote, begins, is_empty}
-use Rattle.css_model.specs.Tokens.{round, square, curly, Kind, ident, function, at_keyword, hash, string, bad_string, url, bad_url, delim, number, percentage, dimension, white_space, cdo, cdc, colon, semicolon, comma, opening, closing}
+use Rattle.css_model.specs.Classes.{Text, backslash, is_digit, is_ident_start, is_whitespace, is_quote, begins, is_empty}
+use Rattle.css_model.specs.Tokens.{round, square, curly, Kind, ident, function, at_keyword, hash, string, bad_string, url, bad_url, delim, number, percentage, dimension, whitespace, cdo, cdc, colon, semicolon, comma, opening, closing}
 use Rattle.css_model.specs.Parts.{Part, parts_text, meaning, in_name}
-use Rattle.css_model.specs.Spellings.{begins_identifier, IsName, Spells}
+use Rattle.css_model.specs.Spellings.{would_start_ident, IsName, Spells}
 use Rattle.css_model.specs.TokenList.{Piece, comment, token, piece_text, IsComment, IsPiece, IsLongest}
 use Rattle.css_model.specs.Fronts.{run_in, parts_in}
-use Rattle.css_model.specs.Pieces.{has_front, string_piece, comment_piece, single_piece, marked_piece, other_piece}
+use Rattle.css_model.specs.Pieces.{has_front, consume_string, consume_comment, single_piece, marked_piece, other_piece}
 use Rattle.css_model.proofs.Tests.{pick-true}
 use Rattle.css_model.proofs.PartLemmas.{parts_in-stop}
 use Rattle.css_model.proofs.Demands.{demands}
@@ -24,13 +24,13 @@ use Rattle.css_model.proofs.NamesAlike.{ident-are, function-are, url-are, bad_ur
 use Rattle.css_model.proofs.NumbersAlike.{number-are, percentage-are, dimension-are, numbers-first}
 use Rattle.css_model.proofs.StringsAlike.{string-are, bad_string-are, strings-first}
 
--- ---- white space, comments, `<!--` and `-->`
+-- ---- whitespace, comments, `<!--` and `-->`
 
-white-meets : (s rest cs : Text) → begins is_white cs ≡ true → Meets white_space s rest (first_of cs)
+white-meets : (s rest cs : Text) → begins is_whitespace cs ≡ true → Meets whitespace s rest (first_of cs)
 white-meets s rest [] h = absurd (false≢true h)
 white-meets s rest (c ∷ cs) h =
-    let other : Piece = if is_quote c then string_piece c cs else (if has_front (codes "/*") (c ∷ cs) then comment_piece (drop 1 cs) else number_or_other c cs) in
-    subst (Meets white_space s rest) (sym (pick-true (is_white c) (token white_space (run_in is_white (c ∷ cs))) other h)) (meet _ _ _ _ rest (λ k. refl))
+    let other : Piece = if is_quote c then consume_string c cs else (if has_front (codes "/*") (c ∷ cs) then consume_comment (drop 1 cs) else number_or_other c cs) in
+    subst (Meets whitespace s rest) (sym (pick-true (is_whitespace c) (token whitespace (run_in is_whitespace (c ∷ cs))) other h)) (meet _ _ _ _ rest (λ k. refl))
 
 comment-is : (s rest : Text) → IsComment s rest → piece_text (first_of (s ++ rest)) ≡ s → comment s ≡ first_of (s ++ rest)
 comment-is s rest h = subst (λ xs. piece_text (first_of (xs ++ rest)) ≡ xs → comment xs ≡ first_of (xs ++ rest)) (sym h.spelling) (λ e. ap comment (sym e))
@@ -59,8 +59,8 @@ hash-same a b i j s rest h k =
 
 hash-meets : (name : Text) (is_id : Bool) (s rest : Text) → Spells (hash name is_id) s rest → (parts : List Part) → Meets (hash name is_id) s rest (marked_piece 35 parts)
 hash-meets name is_id s rest h parts =
-    cond_both (not (is_empty (parts_text parts))) (token (hash (flat_map meaning parts) (begins_identifier parts)) (codes "#" ++ parts_text parts)) (single_piece 35) (Meets (hash name is_id) s rest)
-    (λ t. meet _ _ _ _ rest (hash-same name (flat_map meaning parts) is_id (begins_identifier parts) s rest h))
+    cond_both (not (is_empty (parts_text parts))) (token (hash (flat_map meaning parts) (would_start_ident parts)) (codes "#" ++ parts_text parts)) (single_piece 35) (Meets (hash name is_id) s rest)
+    (λ t. meet _ _ _ _ rest (hash-same name (flat_map meaning parts) is_id (would_start_ident parts) s rest h))
     (λ n j k. absurd (mark-longer 35 35 s h.0 h.1 (some-length h.0 h.2) j))
 
 hash-first : (name : Text) (is_id : Bool) (s rest : Text) → Spells (hash name is_id) s rest → Meets (hash name is_id) s rest (first_of (s ++ rest))
@@ -76,7 +76,7 @@ at-same a b s rest h k =
 
 at-meets : (name : Text) (s rest : Text) → Spells (at_keyword name) s rest → (parts : List Part) → Meets (at_keyword name) s rest (marked_piece 64 parts)
 at-meets name s rest h parts =
-    cond_both (begins_identifier parts) (token (at_keyword (flat_map meaning parts)) (codes "@" ++ parts_text parts)) (single_piece 64) (Meets (at_keyword name) s rest)
+    cond_both (would_start_ident parts) (token (at_keyword (flat_map meaning parts)) (codes "@" ++ parts_text parts)) (single_piece 64) (Meets (at_keyword name) s rest)
     (λ t. meet _ _ _ _ rest (at-same name (flat_map meaning parts) s rest h))
     (λ n j k. absurd (mark-longer 64 64 s h.0 h.1 (name-some name h.0 rest h.2) j))
 
@@ -89,7 +89,7 @@ at-first name s rest h =
 -- ---- all classes
 
 -- a mark that no other class begins with
-mark-meets : (kind : Kind) (c : ℕ) (s rest : Text) → is_white c ≡ false → is_quote c ≡ false → is_digit c ≡ false → is_name_start c ≡ false → c == backslash ≡ false → s ≡ c ∷ [] → Spells kind s rest → Meets kind s rest (first_of (s ++ rest))
+mark-meets : (kind : Kind) (c : ℕ) (s rest : Text) → is_whitespace c ≡ false → is_quote c ≡ false → is_digit c ≡ false → is_ident_start c ≡ false → c == backslash ≡ false → s ≡ c ∷ [] → Spells kind s rest → Meets kind s rest (first_of (s ++ rest))
 mark-meets kind c s rest w q d n b e h = alone-meets kind c s rest (record { white = w; quote = q; digit = d; start = n; no_escape = ap (λ t. t && is_empty rest) b }) e h (first_of (s ++ rest))
 
 token-meets : (kind : Kind) (s rest : Text) → Spells kind s rest → Meets kind s rest (first_of (s ++ rest))
@@ -105,7 +105,7 @@ token-meets (delim c) s rest h = alone-meets (delim c) c s rest (delim-alone c s
 token-meets (number n) s rest h = numbers-first (number n) s rest (number-are n s rest h) (s ++ rest) (demands (number n) s rest h)
 token-meets (percentage n) s rest h = numbers-first (percentage n) s rest (percentage-are n s rest h) (s ++ rest) (demands (percentage n) s rest h)
 token-meets (dimension n unit) s rest h = numbers-first (dimension n unit) s rest (dimension-are n unit s rest h) (s ++ rest) (demands (dimension n unit) s rest h)
-token-meets white_space s rest h = white-meets s rest (s ++ rest) (demands white_space s rest h)
+token-meets whitespace s rest h = white-meets s rest (s ++ rest) (demands whitespace s rest h)
 token-meets cdo s rest h = λ e k. cdo-is s rest h
 token-meets cdc s rest h = λ e k. cdc-is s rest h
 token-meets colon s rest h = mark-meets colon 58 s rest refl refl refl refl refl h h

@@ -2,7 +2,7 @@
 use Rattle.std.proofs.Common.{◌≡◌, ◌∙◌, sym, ap, refl, subst, pred, ◌+◌, ◌≤◌, List, [], ◌∷◌, ◌++◌, length, drop, arith, length-append}
 use Rattle.std.specs.Prelude.{codes}
 use Rattle.css_model.specs.Classes.{Text}
-use Rattle.css_model.specs.Tokens.{round, square, curly, Kind, ident, function, at_keyword, hash, string, bad_string, url, bad_url, delim, number, percentage, dimension, white_space, cdo, cdc, colon, semicolon, comma, opening, closing, Token}
+use Rattle.css_model.specs.Tokens.{round, square, curly, Kind, ident, function, at_keyword, hash, string, bad_string, url, bad_url, delim, number, percentage, dimension, whitespace, cdo, cdc, colon, semicolon, comma, opening, closing, Token}
 use Rattle.css_model.specs.Numerals.{Numeral, numeral_text, IsNumeral}
 use Rattle.css_model.specs.Spellings.{Spells}
 use Rattle.css_model.specs.TokenList.{Piece, comment, token, piece_text, pieces_text, IsPiece, ArePieces, tokens_from, IsTokenList}
@@ -41,7 +41,7 @@ token-some (delim c) s rest h = written-some s (c ∷ []) h.spelling (omega arit
 token-some (number n) s rest h = number-some h.numeral [] s h.is_numeral h.spelling
 token-some (percentage n) s rest h = number-some h.numeral (codes "%") s h.is_numeral h.spelling
 token-some (dimension n unit) s rest h = number-some h.numeral h.tail s h.is_numeral h.spelling
-token-some white_space s rest h = some-length s h.1
+token-some whitespace s rest h = some-length s h.1
 token-some cdo s rest h = written-some s (codes "<!--") h (omega arith)
 token-some cdc s rest h = written-some s (codes "-->") h (omega arith)
 token-some colon s rest h = written-some s (codes ":") h (omega arith)

@@ -3,9 +3,9 @@ use Rattle.std.proofs.Common.{◌≡◌, ◌⊎◌, ◌∙◌, sym, ap, refl, su
 use Rattle.std.proofs.lemmas.Bool.{cases_Bool, false≢true, eq-eqb}
 use Rattle.std.proofs.Math.Seq.{drop-append_seam}
 use Rattle.std.specs.List.{list_all}
-use Rattle.css_model.specs.Classes.{Text, backslash, is_hex_digit, is_newline, is_white, begins, is_empty}
-use Rattle.css_model.specs.Parts.{Part, itself, escaped, coded, joined, cut_off, part_text, parts_text, is_blank, is_code_over, IsPart, AreParts}
-use Rattle.css_model.specs.Fronts.{one_in, hex_digits_in, code_in, escape_in, part_in, parts_after, parts_in, behind_parts}
+use Rattle.css_model.specs.Classes.{Text, backslash, is_hex_digit, is_newline, is_whitespace, begins, is_empty}
+use Rattle.css_model.specs.Parts.{Part, itself, escaped, hex_escape, escaped_newline, escape_at_end, part_text, parts_text, is_blank, is_hex_escape_over, IsPart, AreParts}
+use Rattle.css_model.specs.Fronts.{one_in, hex_digits_in, hex_escape_in, escape_in, part_in, parts_after, parts_in, behind_parts}
 use Rattle.css_model.proofs.Tests.{and-left, and-right, or-cases, not-true, not-false, both, or-left, or-right, pick-true, pick-false}
 use Rattle.std.specs.Prelude.{if◌then◌else◌}
 
@@ -13,7 +13,7 @@ use Rattle.std.specs.Prelude.{if◌then◌else◌}
 
 -- the part that a text begins with
 abbrev pub part_of : Text → Part
-part_of [] = cut_off
+part_of [] = escape_at_end
 part_of (c ∷ cs) = part_in c cs
 
 -- hex digits that are as many as may be, or that end, are those in front
@@ -31,7 +31,7 @@ hex_digits_in-is (suc n) (d ∷ ds) tail a l e =
 hex-no_newline : (d : ℕ) → is_hex_digit d ≡ true → is_newline d ≡ false
 hex-no_newline d h = elim (cases_Bool (is_newline d)) [ inl t ↦ absurd (false≢true (subst (λ x. is_hex_digit x ≡ true) (eqb-true d 10 t) h)) | inr f ↦ f ]
 
-white-no_hex : (c : ℕ) → is_white c ≡ true → is_hex_digit c ≡ false
+white-no_hex : (c : ℕ) → is_whitespace c ≡ true → is_hex_digit c ≡ false
 white-no_hex c h = elim (or-cases (is_newline c) ((c == 9) || (c == 32)) h) [
   | inl t ↦ subst (λ x. is_hex_digit x ≡ false) (sym (eqb-true c 10 t)) refl
   | inr t ↦ elim (or-cases (c == 9) (c == 32) t) [
@@ -44,44 +44,44 @@ pub one_in-none : (test : ℕ → Bool) (cs : Text) → begins test cs ≡ false
 one_in-none test [] f = refl
 one_in-none test (c ∷ cs) f = rw f refl
 
--- the white space behind a code
-blank-is : (digits blank behind : Text) → is_blank blank ≡ true → is_code_over digits blank behind ≡ true → one_in is_white (blank ++ behind) ≡ blank
-blank-is digits [] behind b o = one_in-none is_white behind (not-true (begins is_white behind) (and-left (not (begins is_white behind)) ((length digits == 6) || not (begins is_hex_digit behind)) o))
-blank-is digits (c ∷ []) behind b o = rw (and-left (is_white c) true b) refl
-blank-is digits (c ∷ d ∷ ds) behind b o = absurd (false≢true (and-right (is_white c) false b))
+-- the whitespace behind a code
+blank-is : (digits blank behind : Text) → is_blank blank ≡ true → is_hex_escape_over digits blank behind ≡ true → one_in is_whitespace (blank ++ behind) ≡ blank
+blank-is digits [] behind b o = one_in-none is_whitespace behind (not-true (begins is_whitespace behind) (and-left (not (begins is_whitespace behind)) ((length digits == 6) || not (begins is_hex_digit behind)) o))
+blank-is digits (c ∷ []) behind b o = rw (and-left (is_whitespace c) true b) refl
+blank-is digits (c ∷ d ∷ ds) behind b o = absurd (false≢true (and-right (is_whitespace c) false b))
 
 -- the digits of a code end
-digits-over : (digits blank behind : Text) → is_blank blank ≡ true → is_code_over digits blank behind ≡ true → (length digits ≡ 6) ⊎ (begins is_hex_digit (blank ++ behind) ≡ false)
+digits-over : (digits blank behind : Text) → is_blank blank ≡ true → is_hex_escape_over digits blank behind ≡ true → (length digits ≡ 6) ⊎ (begins is_hex_digit (blank ++ behind) ≡ false)
 digits-over digits [] behind b o =
-    elim (or-cases (length digits == 6) (not (begins is_hex_digit behind)) (and-right (not (begins is_white behind)) ((length digits == 6) || not (begins is_hex_digit behind)) o)) [
+    elim (or-cases (length digits == 6) (not (begins is_hex_digit behind)) (and-right (not (begins is_whitespace behind)) ((length digits == 6) || not (begins is_hex_digit behind)) o)) [
       | inl full ↦ inl (eqb-true (length digits) 6 full)
       | inr ends ↦ inr (not-true (begins is_hex_digit behind) ends)
     ]
-digits-over digits (c ∷ cs) behind b o = inr (white-no_hex c (and-left (is_white c) (is_empty cs) b))
+digits-over digits (c ∷ cs) behind b o = inr (white-no_hex c (and-left (is_whitespace c) (is_empty cs) b))
 
-code_in-is : (digits blank behind : Text) → IsPart (coded digits blank) behind → code_in (digits ++ (blank ++ behind)) ≡ coded digits blank
-code_in-is digits blank behind h =
+hex_escape_in-is : (digits blank behind : Text) → IsPart (hex_escape digits blank) behind → hex_escape_in (digits ++ (blank ++ behind)) ≡ hex_escape digits blank
+hex_escape_in-is digits blank behind h =
     let cs : Text = digits ++ (blank ++ behind) in
     let front : hex_digits_in 6 cs ≡ digits = hex_digits_in-is 6 digits (blank ++ behind) h.0 h.2 (digits-over digits blank behind h.3 h.4) in
     let rest : drop (length (hex_digits_in 6 cs)) cs ≡ blank ++ behind = ap (λ ds. drop (length ds) cs) front ∙ drop-append_seam digits (blank ++ behind) in
-    let white : one_in is_white (drop (length (hex_digits_in 6 cs)) cs) ≡ blank = ap (one_in is_white) rest ∙ blank-is digits blank behind h.3 h.4 in
-    ap (λ ds. coded ds (one_in is_white (drop (length (hex_digits_in 6 cs)) cs))) front ∙ ap (coded digits) white
+    let white : one_in is_whitespace (drop (length (hex_digits_in 6 cs)) cs) ≡ blank = ap (one_in is_whitespace) rest ∙ blank-is digits blank behind h.3 h.4 in
+    ap (λ ds. hex_escape ds (one_in is_whitespace (drop (length (hex_digits_in 6 cs)) cs))) front ∙ ap (hex_escape digits) white
 
-escape_in-code : (d : ℕ) (cs : Text) → is_hex_digit d ≡ true → escape_in (d ∷ cs) ≡ code_in (d ∷ cs)
+escape_in-code : (d : ℕ) (cs : Text) → is_hex_digit d ≡ true → escape_in (d ∷ cs) ≡ hex_escape_in (d ∷ cs)
 escape_in-code d cs h =
-    pick-false (is_newline d) joined (if is_hex_digit d then code_in (d ∷ cs) else escaped d) (hex-no_newline d h)
-    ∙ pick-true (is_hex_digit d) (code_in (d ∷ cs)) (escaped d) h
+    pick-false (is_newline d) escaped_newline (if is_hex_digit d then hex_escape_in (d ∷ cs) else escaped d) (hex-no_newline d h)
+    ∙ pick-true (is_hex_digit d) (hex_escape_in (d ∷ cs)) (escaped d) h
 
 -- a part of the definition is the one that the text begins with
 pub part_of-is : (p : Part) (behind : Text) → IsPart p behind → part_of (part_text p ++ behind) ≡ p
 part_of-is (itself c) behind h = rw h refl
 part_of-is (escaped c) behind h = rw h.1 (rw h.0 refl)
-part_of-is (coded [] blank) behind h = absurd (omega (arith, h.1))
-part_of-is (coded (d ∷ ds) blank) behind h =
+part_of-is (hex_escape [] blank) behind h = absurd (omega (arith, h.1))
+part_of-is (hex_escape (d ∷ ds) blank) behind h =
     let here : is_hex_digit d ≡ true = and-left (is_hex_digit d) (list_all is_hex_digit ds) h.0 in
-    escape_in-code d ((ds ++ blank) ++ behind) here ∙ (ap (λ cs. code_in (d ∷ cs)) (append_assoc ds blank behind) ∙ code_in-is (d ∷ ds) blank behind h)
-part_of-is joined behind h = refl
-part_of-is cut_off behind h = subst (λ cs. part_of (backslash ∷ cs) ≡ cut_off) (sym h) refl
+    escape_in-code d ((ds ++ blank) ++ behind) here ∙ (ap (λ cs. hex_escape_in (d ∷ cs)) (append_assoc ds blank behind) ∙ hex_escape_in-is (d ∷ ds) blank behind h)
+part_of-is escaped_newline behind h = refl
+part_of-is escape_at_end behind h = subst (λ cs. part_of (backslash ∷ cs) ≡ escape_at_end) (sym h) refl
 
 -- ---- all parts in front
 
@@ -113,9 +113,9 @@ parts_in-front allowed p c cs rest front is a behind =
 parts_in-part : (allowed : Part → Bool) (p : Part) (rest : Text) → allowed p ≡ true → IsPart p rest → parts_in allowed (part_text p ++ rest) ≡ p ∷ parts_in allowed rest
 parts_in-part allowed (itself c) rest a h = parts_in-front allowed (itself c) c rest rest refl (part_of-is (itself c) rest h) a refl
 parts_in-part allowed (escaped c) rest a h = parts_in-front allowed (escaped c) backslash (c ∷ rest) rest refl (part_of-is (escaped c) rest h) a refl
-parts_in-part allowed (coded digits blank) rest a h = parts_in-front allowed (coded digits blank) backslash ((digits ++ blank) ++ rest) rest refl (part_of-is (coded digits blank) rest h) a (drop-append_seam (digits ++ blank) rest)
-parts_in-part allowed joined rest a h = parts_in-front allowed joined backslash (10 ∷ rest) rest refl refl a refl
-parts_in-part allowed cut_off rest a h = parts_in-front allowed cut_off backslash rest rest refl (part_of-is cut_off rest h) a refl
+parts_in-part allowed (hex_escape digits blank) rest a h = parts_in-front allowed (hex_escape digits blank) backslash ((digits ++ blank) ++ rest) rest refl (part_of-is (hex_escape digits blank) rest h) a (drop-append_seam (digits ++ blank) rest)
+parts_in-part allowed escaped_newline rest a h = parts_in-front allowed escaped_newline backslash (10 ∷ rest) rest refl refl a refl
+parts_in-part allowed escape_at_end rest a h = parts_in-front allowed escape_at_end backslash rest rest refl (part_of-is escape_at_end rest h) a refl
 
 -- parts of the definition stand in front, and then those of what is behind them
 pub parts_in-are : (allowed : Part → Bool) (parts : List Part) (behind : Text) → AreParts allowed parts behind → parts_in allowed (parts_text parts ++ behind) ≡ parts ++ parts_in allowed behind
@@ -167,15 +167,15 @@ pub one_in-joins : (test : ℕ → Bool) (cs : Text) → one_in test cs ++ drop 
 one_in-joins test [] = refl
 one_in-joins test (c ∷ cs) = elim (cases_Bool (test c)) [ inl t ↦ rw t refl | inr f ↦ rw f refl ]
 
-one_in-blank : (cs : Text) → is_blank (one_in is_white cs) ≡ true
+one_in-blank : (cs : Text) → is_blank (one_in is_whitespace cs) ≡ true
 one_in-blank [] = refl
-one_in-blank (c ∷ cs) = elim (cases_Bool (is_white c)) [ inl t ↦ rw t (rw t refl) | inr f ↦ rw f refl ]
+one_in-blank (c ∷ cs) = elim (cases_Bool (is_whitespace c)) [ inl t ↦ rw t (rw t refl) | inr f ↦ rw f refl ]
 
-code_over : (digits cs : Text) → (length digits ≡ 6) ⊎ (begins is_hex_digit cs ≡ false) → is_code_over digits (one_in is_white cs) (drop (length (one_in is_white cs)) cs) ≡ true
+code_over : (digits cs : Text) → (length digits ≡ 6) ⊎ (begins is_hex_digit cs ≡ false) → is_hex_escape_over digits (one_in is_whitespace cs) (drop (length (one_in is_whitespace cs)) cs) ≡ true
 code_over digits [] e = or-right (length digits == 6) true refl
-code_over digits (c ∷ cs) e = elim (cases_Bool (is_white c)) [
+code_over digits (c ∷ cs) e = elim (cases_Bool (is_whitespace c)) [
   | inl t ↦ rw t refl
-  | inr f ↦ rw f (both (not (is_white c)) ((length digits == 6) || not (is_hex_digit c)) (not-false (is_white c) f)
+  | inr f ↦ rw f (both (not (is_whitespace c)) ((length digits == 6) || not (is_hex_digit c)) (not-false (is_whitespace c) f)
       (elim e [
         | inl full ↦ or-left (length digits == 6) (not (is_hex_digit c)) (eq-eqb (length digits) 6 full)
         | inr ends ↦ or-right (length digits == 6) (not (is_hex_digit c)) (not-false (is_hex_digit c) ends)
@@ -186,17 +186,17 @@ hex_digits_in-some : (d : ℕ) (cs : Text) → is_hex_digit d ≡ true → 1 ≤
 hex_digits_in-some d cs h = subst (λ xs. 1 ≤ length xs) (sym (pick-true (is_hex_digit d) (d ∷ hex_digits_in 5 cs) [] h)) (omega arith)
 
 -- the code that stands in front of a hex digit and what is behind it
-code-part : (d : ℕ) (cs : Text) → is_hex_digit d ≡ true → Part1 (code_in (d ∷ cs)) backslash (d ∷ cs)
+code-part : (d : ℕ) (cs : Text) → is_hex_digit d ≡ true → Part1 (hex_escape_in (d ∷ cs)) backslash (d ∷ cs)
 code-part d cs h =
     let digits : Text = hex_digits_in 6 (d ∷ cs) in
     let rest : Text = drop (length digits) (d ∷ cs) in
-    let blank : Text = one_in is_white rest in
+    let blank : Text = one_in is_whitespace rest in
     let behind : Text = drop (length blank) rest in
-    let joins : (digits ++ blank) ++ behind ≡ d ∷ cs = append_assoc digits blank behind ∙ (ap (λ xs. digits ++ xs) (one_in-joins is_white rest) ∙ hex_digits_in-joins 6 (d ∷ cs)) in
+    let joins : (digits ++ blank) ++ behind ≡ d ∷ cs = append_assoc digits blank behind ∙ (ap (λ xs. digits ++ xs) (one_in-joins is_whitespace rest) ∙ hex_digits_in-joins 6 (d ∷ cs)) in
     let there : drop (length (digits ++ blank)) (d ∷ cs) ≡ behind = ap (drop (length (digits ++ blank))) (sym joins) ∙ drop-append_seam (digits ++ blank) behind in
     record {
       joins = ap (λ xs. backslash ∷ ((digits ++ blank) ++ xs)) there ∙ ap (λ xs. backslash ∷ xs) joins;
-      is = subst (IsPart (coded digits blank)) (sym there) (hex_digits_in-pass 6 (d ∷ cs), hex_digits_in-some d cs h, hex_digits_in-few 6 (d ∷ cs), one_in-blank rest, code_over digits rest (hex_digits_in-end 6 (d ∷ cs)));
+      is = subst (IsPart (hex_escape digits blank)) (sym there) (hex_digits_in-pass 6 (d ∷ cs), hex_digits_in-some d cs h, hex_digits_in-few 6 (d ∷ cs), one_in-blank rest, code_over digits rest (hex_digits_in-end 6 (d ∷ cs)));
     }
 
 escape-part : (cs : Text) → Part1 (escape_in cs) backslash cs
@@ -205,7 +205,7 @@ escape-part (d ∷ cs) = elim (cases_Bool (is_newline d)) [
   | inl t ↦ rw (eqb-true d 10 t) (record { joins = refl; is = tt })
   | inr f ↦ elim (cases_Bool (is_hex_digit d)) [
     | inl t ↦ subst (λ p. Part1 p backslash (d ∷ cs)) (sym (escape_in-code d cs t)) (code-part d cs t)
-    | inr n ↦ subst (λ p. Part1 p backslash (d ∷ cs)) (sym (pick-false (is_newline d) joined (if is_hex_digit d then code_in (d ∷ cs) else escaped d) f ∙ pick-false (is_hex_digit d) (code_in (d ∷ cs)) (escaped d) n)) (record { joins = refl; is = (n, f) })
+    | inr n ↦ subst (λ p. Part1 p backslash (d ∷ cs)) (sym (pick-false (is_newline d) escaped_newline (if is_hex_digit d then hex_escape_in (d ∷ cs) else escaped d) f ∙ pick-false (is_hex_digit d) (hex_escape_in (d ∷ cs)) (escaped d) n)) (record { joins = refl; is = (n, f) })
   ]
 ]
 

@@ -2,13 +2,13 @@
 use Rattle.std.proofs.Common.{◌≡◌, ◌∙◌, sym, ap, refl, subst, ℕ, suc, ◌+◌, ◌==◌, List, [], ◌∷◌, ◌++◌, length, drop, Bool, true, false, ◌||◌, not, arith, append_assoc, length-append, eqb-true, inl, inr}
 use Rattle.std.proofs.lemmas.Bool.{false≢true, cond_both}
 use Rattle.std.specs.Prelude.{codes, flat_map, if◌then◌else◌}
-use Rattle.css_model.specs.Classes.{Text, is_newline, is_white, is_quote, begins}
+use Rattle.css_model.specs.Classes.{Text, is_newline, is_whitespace, is_quote, begins}
 use Rattle.css_model.specs.Tokens.{Kind, string, bad_string}
 use Rattle.css_model.specs.Parts.{Part, parts_text, meaning_in_string, in_string}
 use Rattle.css_model.specs.Spellings.{IsEnd, IsString, IsBadString}
 use Rattle.css_model.specs.TokenList.{Piece, token}
 use Rattle.css_model.specs.Fronts.{parts_in, behind_parts}
-use Rattle.css_model.specs.Pieces.{has_front, comment_piece, string_of_parts, string_piece}
+use Rattle.css_model.specs.Pieces.{has_front, consume_comment, string_of_parts, consume_string}
 use Rattle.css_model.proofs.Tests.{or-cases, pick-true}
 use Rattle.css_model.proofs.PartLemmas.{parts_in-stop}
 use Rattle.css_model.proofs.FirstStrings.{stops-at-end, parts-stopped, string-stop, quote-same}
@@ -91,15 +91,15 @@ string-meets kind s rest are quote parts (c ∷ cs) =
     (λ t. meet _ _ _ _ _ (are.as_string (flat_map meaning_in_string parts)))
     (λ n. meet _ _ _ _ _ are.as_bad_string)
 
-quote-no_white : (c : ℕ) → is_quote c ≡ true → is_white c ≡ false
+quote-no_white : (c : ℕ) → is_quote c ≡ true → is_whitespace c ≡ false
 quote-no_white c h = elim (or-cases (c == 34) (c == 39) h) [
-  | inl t ↦ subst (λ x. is_white x ≡ false) (sym (eqb-true c 34 t)) refl
-  | inr t ↦ subst (λ x. is_white x ≡ false) (sym (eqb-true c 39 t)) refl
+  | inl t ↦ subst (λ x. is_whitespace x ≡ false) (sym (eqb-true c 34 t)) refl
+  | inr t ↦ subst (λ x. is_whitespace x ≡ false) (sym (eqb-true c 39 t)) refl
 ]
 
 pub strings-first : (kind : Kind) (s rest : Text) → StringsAre kind s rest → (cs : Text) → begins is_quote cs ≡ true → Meets kind s rest (first_of cs)
 strings-first kind s rest are [] h = absurd (false≢true h)
 strings-first kind s rest are (c ∷ cs) h =
-    let other : Piece = if has_front (codes "/*") (c ∷ cs) then comment_piece (drop 1 cs) else number_or_other c cs in
+    let other : Piece = if has_front (codes "/*") (c ∷ cs) then consume_comment (drop 1 cs) else number_or_other c cs in
     let parts : List Part = parts_in (in_string c) cs in
-    subst (Meets kind s rest) (sym (past-white c cs (quote-no_white c h) ∙ pick-true (is_quote c) (string_piece c cs) other h)) (string-meets kind s rest are c parts (behind_parts parts cs))
+    subst (Meets kind s rest) (sym (past-white c cs (quote-no_white c h) ∙ pick-true (is_quote c) (consume_string c cs) other h)) (string-meets kind s rest are c parts (behind_parts parts cs))

@@ -3,11 +3,11 @@ use Rattle.std.proofs.Common.{◌≡◌, ◌⊎◌, ◌∙◌, sym, ap, refl, su
 use Rattle.std.proofs.lemmas.Bool.{cases_Bool, true≢false, false≢true, leb-true}
 use Rattle.std.specs.Prelude.{nat_le}
 use Rattle.std.specs.List.{list_all}
-use Rattle.css_model.specs.Classes.{Text, full_stop, hyphen, underscore, is_between, is_letter, is_digit, is_name_start, is_sign, is_e, begins, is_empty}
-use Rattle.css_model.specs.Parts.{Part, itself, escaped, coded, joined, cut_off, parts_text, in_name}
-use Rattle.css_model.specs.Spellings.{begins_identifier, follows_hyphen, IsName}
+use Rattle.css_model.specs.Classes.{Text, full_stop, hyphen, underscore, is_between, is_letter, is_digit, is_ident_start, is_sign, is_e, begins, is_empty}
+use Rattle.css_model.specs.Parts.{Part, itself, escaped, hex_escape, escaped_newline, escape_at_end, parts_text, in_name}
+use Rattle.css_model.specs.Spellings.{would_start_ident, follows_hyphen, IsName}
 use Rattle.css_model.specs.Numerals.{Numeral, fraction_text, exponent_text, numeral_text, is_at_most_one, is_exponent, IsNumeral, begins_signed_digit, begins_exponent}
-use Rattle.css_model.specs.Fronts.{one_in, run_in, parts_in, behind_parts, begins_unsigned, begins_number, with_exponent, with_whole, numeral_in}
+use Rattle.css_model.specs.Fronts.{one_in, run_in, parts_in, behind_parts, begins_unsigned, would_start_number, with_exponent, with_whole, numeral_in}
 use Rattle.css_model.proofs.Tests.{and-left, and-right, or-left, or-cases, pick-true, pick-false}
 use Rattle.css_model.proofs.PartLemmas.{Fronts, fronts}
 use Rattle.css_model.proofs.Demands.{begins_name}
@@ -20,7 +20,7 @@ use Rattle.css_model.proofs.NumberSizes.{numeral-length, with_exponent-length, s
 digit-below : (c : ℕ) → is_digit c ≡ true → c ≤ 57
 digit-below c h = leb-true c 57 (and-right (nat_le 48 c) (nat_le c 57) h)
 
-start-no_digit : (c : ℕ) → is_name_start c ≡ true → is_digit c ≡ false
+start-no_digit : (c : ℕ) → is_ident_start c ≡ true → is_digit c ≡ false
 start-no_digit c h = elim (cases_Bool (is_digit c)) [
   | inr f ↦ f
   | inl d ↦
@@ -37,20 +37,20 @@ start-no_digit c h = elim (cases_Bool (is_digit c)) [
       ]
 ]
 
-start-no_char : (c d : ℕ) → is_name_start d ≡ false → is_name_start c ≡ true → c == d ≡ false
-start-no_char c d f h = elim (cases_Bool (c == d)) [ inr n ↦ n | inl t ↦ absurd (true≢false (sym (ap is_name_start (sym (eqb-true c d t)) ∙ h) ∙ f)) ]
+start-no_char : (c d : ℕ) → is_ident_start d ≡ false → is_ident_start c ≡ true → c == d ≡ false
+start-no_char c d f h = elim (cases_Bool (c == d)) [ inr n ↦ n | inl t ↦ absurd (true≢false (sym (ap is_ident_start (sym (eqb-true c d t)) ∙ h) ∙ f)) ]
 
 -- neither a digit nor a point stands in front of an identifier
-pub ident-other : (parts : List Part) (rest : Text) → begins_identifier parts ≡ true → IsOther (parts_text parts ++ rest)
+pub ident-other : (parts : List Part) (rest : Text) → would_start_ident parts ≡ true → IsOther (parts_text parts ++ rest)
 ident-other [] rest h = absurd (false≢true h)
-ident-other (itself c ∷ parts) rest h = elim (or-cases (is_name_start c) ((c == hyphen) && follows_hyphen parts) h) [
+ident-other (itself c ∷ parts) rest h = elim (or-cases (is_ident_start c) ((c == hyphen) && follows_hyphen parts) h) [
   | inl t ↦ (start-no_digit c t, start-no_char c full_stop refl t)
   | inr t ↦ subst (λ x. IsOther (x ∷ (parts_text parts ++ rest))) (sym (eqb-true c hyphen (and-left (c == hyphen) (follows_hyphen parts) t))) (refl, refl)
 ]
 ident-other (escaped c ∷ parts) rest h = (refl, refl)
-ident-other (coded digits blank ∷ parts) rest h = (refl, refl)
-ident-other (joined ∷ parts) rest h = (refl, refl)
-ident-other (cut_off ∷ parts) rest h = (refl, refl)
+ident-other (hex_escape digits blank ∷ parts) rest h = (refl, refl)
+ident-other (escaped_newline ∷ parts) rest h = (refl, refl)
+ident-other (escape_at_end ∷ parts) rest h = (refl, refl)
 
 other-unsigned : (cs : Text) → IsOther cs → begins_unsigned cs ≡ false
 other-unsigned [] o = refl
@@ -58,36 +58,36 @@ other-unsigned (c ∷ cs) o = rw o.0 (rw o.1 refl)
 
 hyphen-other : (parts : List Part) (rest : Text) → follows_hyphen parts ≡ true → IsOther (parts_text parts ++ rest)
 hyphen-other [] rest h = absurd (false≢true h)
-hyphen-other (itself c ∷ parts) rest h = elim (or-cases (is_name_start c) (c == hyphen) h) [
+hyphen-other (itself c ∷ parts) rest h = elim (or-cases (is_ident_start c) (c == hyphen) h) [
   | inl t ↦ (start-no_digit c t, start-no_char c full_stop refl t)
   | inr t ↦ subst (λ x. IsOther (x ∷ (parts_text parts ++ rest))) (sym (eqb-true c hyphen t)) (refl, refl)
 ]
 hyphen-other (escaped c ∷ parts) rest h = (refl, refl)
-hyphen-other (coded digits blank ∷ parts) rest h = (refl, refl)
-hyphen-other (joined ∷ parts) rest h = (refl, refl)
-hyphen-other (cut_off ∷ parts) rest h = (refl, refl)
+hyphen-other (hex_escape digits blank ∷ parts) rest h = (refl, refl)
+hyphen-other (escaped_newline ∷ parts) rest h = (refl, refl)
+hyphen-other (escape_at_end ∷ parts) rest h = (refl, refl)
 
-ident-no_number : (parts : List Part) (rest : Text) → begins_identifier parts ≡ true → begins_number (parts_text parts ++ rest) ≡ false
+ident-no_number : (parts : List Part) (rest : Text) → would_start_ident parts ≡ true → would_start_number (parts_text parts ++ rest) ≡ false
 ident-no_number [] rest h = absurd (false≢true h)
-ident-no_number (itself c ∷ parts) rest h = elim (or-cases (is_name_start c) ((c == hyphen) && follows_hyphen parts) h) [
+ident-no_number (itself c ∷ parts) rest h = elim (or-cases (is_ident_start c) ((c == hyphen) && follows_hyphen parts) h) [
   | inl t ↦
       let no_sign : is_sign c ≡ false = rw (start-no_char c 43 refl t) (start-no_char c 45 refl t) in
       ap begins_unsigned (pick-false (is_sign c) (parts_text parts ++ rest) (c ∷ (parts_text parts ++ rest)) no_sign) ∙ other-unsigned (c ∷ (parts_text parts ++ rest)) (start-no_digit c t, start-no_char c full_stop refl t)
-  | inr t ↦ subst (λ x. begins_number (x ∷ (parts_text parts ++ rest)) ≡ false) (sym (eqb-true c hyphen (and-left (c == hyphen) (follows_hyphen parts) t)))
+  | inr t ↦ subst (λ x. would_start_number (x ∷ (parts_text parts ++ rest)) ≡ false) (sym (eqb-true c hyphen (and-left (c == hyphen) (follows_hyphen parts) t)))
       (other-unsigned (parts_text parts ++ rest) (hyphen-other parts rest (and-right (c == hyphen) (follows_hyphen parts) t)))
 ]
 ident-no_number (escaped c ∷ parts) rest h = refl
-ident-no_number (coded digits blank ∷ parts) rest h = refl
-ident-no_number (joined ∷ parts) rest h = refl
-ident-no_number (cut_off ∷ parts) rest h = refl
+ident-no_number (hex_escape digits blank ∷ parts) rest h = refl
+ident-no_number (escaped_newline ∷ parts) rest h = refl
+ident-no_number (escape_at_end ∷ parts) rest h = refl
 
 -- where a number begins, no name does
-pub number-no_name : (cs : Text) → begins_number cs ≡ true → begins_name cs ≡ false
+pub number-no_name : (cs : Text) → would_start_number cs ≡ true → begins_name cs ≡ false
 number-no_name cs h = elim (cases_Bool (begins_name cs)) [
   | inr f ↦ f
   | inl t ↦
       let f : Fronts in_name cs = fronts in_name cs in
-      absurd (true≢false (sym (ap begins_number f.joins ∙ h) ∙ ident-no_number (parts_in in_name cs) (behind_parts (parts_in in_name cs) cs) t))
+      absurd (true≢false (sym (ap would_start_number f.joins ∙ h) ∙ ident-no_number (parts_in in_name cs) (behind_parts (parts_in in_name cs) cs) t))
 ]
 
 -- ---- a unit that would begin an exponent

@@ -3,13 +3,13 @@ use Rattle.std.proofs.Common.{◌≡◌, ◌∙◌, sym, ap, refl, subst, ◌+�
 use Rattle.std.proofs.lemmas.Bool.{cases_Bool, true≢false, cond_both}
 use Rattle.std.proofs.Math.Seq.{drop-append_seam}
 use Rattle.std.specs.Prelude.{codes, flat_map, if◌then◌else◌}
-use Rattle.css_model.specs.Classes.{Text, backslash, open_round, close_round, is_hex_digit, is_newline, is_white}
+use Rattle.css_model.specs.Classes.{Text, backslash, open_round, close_round, is_hex_digit, is_newline, is_whitespace}
 use Rattle.css_model.specs.Tokens.{url}
-use Rattle.css_model.specs.Parts.{Part, itself, escaped, joined, parts_text, meaning, in_name, in_url, in_bad_url, AreParts}
+use Rattle.css_model.specs.Parts.{Part, itself, escaped, escaped_newline, parts_text, meaning, in_name, in_url, in_bad_url, AreParts}
 use Rattle.css_model.specs.Spellings.{is_url_name, IsEnd, IsName, IsUrlHead}
 use Rattle.css_model.specs.TokenList.{Piece, token, piece_text, IsPiece}
-use Rattle.css_model.specs.Fronts.{one_in, run_in, code_in, escape_in, part_in, parts_in, behind_parts}
-use Rattle.css_model.specs.Pieces.{is_close_round, bad_url_piece, url_piece}
+use Rattle.css_model.specs.Fronts.{one_in, run_in, hex_escape_in, escape_in, part_in, parts_in, behind_parts}
+use Rattle.css_model.specs.Pieces.{is_close_round, consume_bad_url_remnants, consume_url}
 use Rattle.css_model.proofs.Tests.{not-false, pick-true, pick-false}
 use Rattle.css_model.proofs.Runs.{Runs, runs}
 use Rattle.css_model.proofs.PartLemmas.{one_in-joins, parts_in-stop, Fronts, fronts}
@@ -60,8 +60,8 @@ closed-end (c ∷ cs) h = inl (pick-true (is_close_round c) (c ∷ []) [] h ∙ 
 
 escape-in-bad_url : (cs : Text) → in_bad_url (escape_in cs) ≡ true
 escape-in-bad_url [] = refl
-escape-in-bad_url (d ∷ cs) = cond_both (is_newline d) joined (if is_hex_digit d then code_in (d ∷ cs) else escaped d) (λ p. in_bad_url p ≡ true) (λ t. refl)
-    (λ f. cond_both (is_hex_digit d) (code_in (d ∷ cs)) (escaped d) (λ p. in_bad_url p ≡ true) (λ t. refl) (λ n. refl))
+escape-in-bad_url (d ∷ cs) = cond_both (is_newline d) escaped_newline (if is_hex_digit d then hex_escape_in (d ∷ cs) else escaped d) (λ p. in_bad_url p ≡ true) (λ t. refl)
+    (λ f. cond_both (is_hex_digit d) (hex_escape_in (d ∷ cs)) (escaped d) (λ p. in_bad_url p ≡ true) (λ t. refl) (λ n. refl))
 
 bad_url-stopped : (cs : Text) → parts_in in_bad_url cs ≡ [] → is_closed cs ≡ true
 bad_url-stopped [] none = refl
@@ -77,19 +77,19 @@ bad_url-stopped (d ∷ ds) none =
 
 -- a url
 url-yes : (head inside : Text) → IsUrlHead head inside → is_closed (after_white (after_parts (after_white inside))) ≡ true
-    → UrlPiece (token (url (flat_map meaning (parts_in in_url (after_white inside)))) (head ++ (run_in is_white inside ++ (parts_text (parts_in in_url (after_white inside)) ++ (run_in is_white (after_parts (after_white inside)) ++ one_in is_close_round (after_white (after_parts (after_white inside)))))))) head inside
+    → UrlPiece (token (url (flat_map meaning (parts_in in_url (after_white inside)))) (head ++ (run_in is_whitespace inside ++ (parts_text (parts_in in_url (after_white inside)) ++ (run_in is_whitespace (after_parts (after_white inside)) ++ one_in is_close_round (after_white (after_parts (after_white inside)))))))) head inside
 url-yes head inside h t =
-    let before : Text = run_in is_white inside in
+    let before : Text = run_in is_whitespace inside in
     let i1 : Text = after_white inside in
     let parts : List Part = parts_in in_url i1 in
     let b1 : Text = after_parts i1 in
-    let after : Text = run_in is_white b1 in
+    let after : Text = run_in is_whitespace b1 in
     let b2 : Text = after_white b1 in
     let end : Text = one_in is_close_round b2 in
     let rest : Text = drop (length end) b2 in
-    let r1 : Runs is_white inside = runs is_white inside in
+    let r1 : Runs is_whitespace inside = runs is_whitespace inside in
     let f : Fronts in_url i1 = fronts in_url i1 in
-    let r2 : Runs is_white b1 = runs is_white b1 in
+    let r2 : Runs is_whitespace b1 = runs is_whitespace b1 in
     let e2 : after ++ (end ++ rest) ≡ b1 = ap (λ xs. after ++ xs) (one_in-joins is_close_round b2) ∙ r2.joins in
     let e1 : parts_text parts ++ (after ++ (end ++ rest)) ≡ i1 = ap (λ xs. parts_text parts ++ xs) e2 ∙ f.joins in
     let e0 : before ++ (parts_text parts ++ (after ++ (end ++ rest))) ≡ inside = ap (λ xs. before ++ xs) e1 ∙ r1.joins in
@@ -101,12 +101,12 @@ url-yes head inside h t =
       joins = append_assoc head (before ++ (parts_text parts ++ (after ++ end))) rest
           ∙ ap (λ xs. head ++ xs) (append_assoc before (parts_text parts ++ (after ++ end)) rest
           ∙ (ap (λ xs. before ++ xs) (append_assoc (parts_text parts) (after ++ end) rest ∙ ap (λ xs. parts_text parts ++ xs) (append_assoc after end rest)) ∙ e0));
-      is = record { head = head; before = before; parts = parts; after = after; end = end; spelling = refl; is_head = subst (IsUrlHead head) (sym e0) h; white_before = r1.passes; are_parts = are; white_after = r2.passes; means = refl; ends = ends };
+      is = record { head = head; before = before; parts = parts; after = after; end = end; spelling = refl; is_head = subst (IsUrlHead head) (sym e0) h; whitespace_before = r1.passes; are_parts = are; whitespace_after = r2.passes; means = refl; ends = ends };
       size = length-append head (before ++ (parts_text parts ++ (after ++ end))) ∙ ap (λ xs. length head + length xs) (sym closed);
     }
 
 -- a bad url
-url-no : (head inside : Text) → IsUrlHead head inside → is_closed (after_white (after_parts (after_white inside))) ≡ false → UrlPiece (bad_url_piece head inside) head inside
+url-no : (head inside : Text) → IsUrlHead head inside → is_closed (after_white (after_parts (after_white inside))) ≡ false → UrlPiece (consume_bad_url_remnants head inside) head inside
 url-no head inside h t =
     let parts : List Part = parts_in in_bad_url inside in
     let b : Text = behind_parts parts inside in
@@ -137,12 +137,12 @@ url-no head inside h t =
             ∙ (ap (λ xs. xs ++ rest) (sym i.spelling) ∙ whole) in
             let theirs : UrlHeaded i.head it (head ++ inside) = url_headed i.head it (head ++ inside) i.is_head front in
             let same : it ≡ inside = ap (drop 1) (sym theirs.behind ∙ mine.behind) in
-            absurd (true≢false (sym (ap (λ xs. is_closed (after_white (after_parts (after_white xs)))) (sym same) ∙ url-computed i.before i.after i.end rest i.parts i.white_before i.are_parts i.white_after i.ends) ∙ t));
+            absurd (true≢false (sym (ap (λ xs. is_closed (after_white (after_parts (after_white xs)))) (sym same) ∙ url-computed i.before i.after i.end rest i.parts i.whitespace_before i.are_parts i.whitespace_after i.ends) ∙ t));
       };
       size = length-append head (parts_text parts ++ end);
     }
 
-pub url-either : (head inside : Text) → IsUrlHead head inside → UrlPiece (url_piece head inside) head inside
+pub url-either : (head inside : Text) → IsUrlHead head inside → UrlPiece (consume_url head inside) head inside
 url-either head inside h = cond_both (is_closed (after_white (after_parts (after_white inside))))
-    (token (url (flat_map meaning (parts_in in_url (after_white inside)))) (head ++ (run_in is_white inside ++ (parts_text (parts_in in_url (after_white inside)) ++ (run_in is_white (after_parts (after_white inside)) ++ one_in is_close_round (after_white (after_parts (after_white inside))))))))
-    (bad_url_piece head inside) (λ p. UrlPiece p head inside) (url-yes head inside h) (url-no head inside h)
+    (token (url (flat_map meaning (parts_in in_url (after_white inside)))) (head ++ (run_in is_whitespace inside ++ (parts_text (parts_in in_url (after_white inside)) ++ (run_in is_whitespace (after_parts (after_white inside)) ++ one_in is_close_round (after_white (after_parts (after_white inside))))))))
+    (consume_bad_url_remnants head inside) (λ p. UrlPiece p head inside) (url-yes head inside h) (url-no head inside h)

@@ -4,8 +4,8 @@ use Rattle.std.proofs.lemmas.Bool.{cases_Bool, true≢false, false≢true}
 use Rattle.std.proofs.Math.Seq.{drop-append_seam}
 use Rattle.std.specs.Prelude.{codes}
 use Rattle.std.specs.List.{list_all}
-use Rattle.css_model.specs.Classes.{Text, backslash, open_round, close_round, is_newline, is_non_printable, is_white, is_quote, begins, is_empty}
-use Rattle.css_model.specs.Parts.{Part, itself, escaped, coded, joined, cut_off, parts_text, in_url, in_bad_url, IsPart, AreParts}
+use Rattle.css_model.specs.Classes.{Text, backslash, open_round, close_round, is_newline, is_non_printable, is_whitespace, is_quote, begins, is_empty}
+use Rattle.css_model.specs.Parts.{Part, itself, escaped, hex_escape, escaped_newline, escape_at_end, parts_text, in_url, in_bad_url, IsPart, AreParts}
 use Rattle.css_model.specs.Spellings.{IsEnd}
 use Rattle.css_model.specs.Fronts.{run_in, escape_in, part_in, parts_in, behind_parts}
 use Rattle.css_model.specs.Pieces.{is_close_round}
@@ -16,7 +16,7 @@ use Rattle.css_model.proofs.FirstStrings.{closed_text, closed-is, parts-stopped,
 
 -- ---- every url is what a bad url could be
 
-white-plain : (w : ℕ) → is_white w ≡ true → (w == close_round ≡ false) × (w == backslash ≡ false)
+white-plain : (w : ℕ) → is_whitespace w ≡ true → (w == close_round ≡ false) × (w == backslash ≡ false)
 white-plain w h = elim (or-cases (is_newline w) ((w == 9) || (w == 32)) h) [
   | inl t ↦ subst (λ x. (x == close_round ≡ false) × (x == backslash ≡ false)) (sym (eqb-true w 10 t)) (refl, refl)
   | inr t ↦ elim (or-cases (w == 9) (w == 32) t) [
@@ -25,11 +25,11 @@ white-plain w h = elim (or-cases (is_newline w) ((w == 9) || (w == 32)) h) [
   ]
 ]
 
-white-parts : (ws behind : Text) → list_all is_white ws ≡ true → AreParts in_bad_url (map itself ws) behind
+white-parts : (ws behind : Text) → list_all is_whitespace ws ≡ true → AreParts in_bad_url (map itself ws) behind
 white-parts [] behind a = tt
 white-parts (w ∷ ws) behind a =
-    let plain : (w == close_round ≡ false) × (w == backslash ≡ false) = white-plain w (and-left (is_white w) (list_all is_white ws) a) in
-    (not-false (w == close_round) plain.0, plain.1, white-parts ws behind (and-right (is_white w) (list_all is_white ws) a))
+    let plain : (w == close_round ≡ false) × (w == backslash ≡ false) = white-plain w (and-left (is_whitespace w) (list_all is_whitespace ws) a) in
+    (not-false (w == close_round) plain.0, plain.1, white-parts ws behind (and-right (is_whitespace w) (list_all is_whitespace ws) a))
 
 white-text : (ws : Text) → parts_text (map itself ws) ≡ ws
 white-text [] = refl
@@ -37,25 +37,25 @@ white-text (w ∷ ws) = ap (λ xs. w ∷ xs) (white-text ws)
 
 url-no_close : (c : ℕ) → in_url (itself c) ≡ true → in_bad_url (itself c) ≡ true
 url-no_close c h =
-    let a : is_quote c || ((c == open_round) || ((c == close_round) || (is_white c || is_non_printable c))) ≡ false = not-true (is_quote c || ((c == open_round) || ((c == close_round) || (is_white c || is_non_printable c)))) h in
-    let b : (c == open_round) || ((c == close_round) || (is_white c || is_non_printable c)) ≡ false = or-false-right (is_quote c) ((c == open_round) || ((c == close_round) || (is_white c || is_non_printable c))) a in
-    let d : (c == close_round) || (is_white c || is_non_printable c) ≡ false = or-false-right (c == open_round) ((c == close_round) || (is_white c || is_non_printable c)) b in
-    not-false (c == close_round) (or-false-left (c == close_round) (is_white c || is_non_printable c) d)
+    let a : is_quote c || ((c == open_round) || ((c == close_round) || (is_whitespace c || is_non_printable c))) ≡ false = not-true (is_quote c || ((c == open_round) || ((c == close_round) || (is_whitespace c || is_non_printable c)))) h in
+    let b : (c == open_round) || ((c == close_round) || (is_whitespace c || is_non_printable c)) ≡ false = or-false-right (is_quote c) ((c == open_round) || ((c == close_round) || (is_whitespace c || is_non_printable c))) a in
+    let d : (c == close_round) || (is_whitespace c || is_non_printable c) ≡ false = or-false-right (c == open_round) ((c == close_round) || (is_whitespace c || is_non_printable c)) b in
+    not-false (c == close_round) (or-false-left (c == close_round) (is_whitespace c || is_non_printable c) d)
 
-url-no_white : (c : ℕ) → in_url (itself c) ≡ true → is_white c ≡ false
+url-no_white : (c : ℕ) → in_url (itself c) ≡ true → is_whitespace c ≡ false
 url-no_white c h =
-    let a : is_quote c || ((c == open_round) || ((c == close_round) || (is_white c || is_non_printable c))) ≡ false = not-true (is_quote c || ((c == open_round) || ((c == close_round) || (is_white c || is_non_printable c)))) h in
-    let b : (c == open_round) || ((c == close_round) || (is_white c || is_non_printable c)) ≡ false = or-false-right (is_quote c) ((c == open_round) || ((c == close_round) || (is_white c || is_non_printable c))) a in
-    let d : (c == close_round) || (is_white c || is_non_printable c) ≡ false = or-false-right (c == open_round) ((c == close_round) || (is_white c || is_non_printable c)) b in
-    or-false-left (is_white c) (is_non_printable c) (or-false-right (c == close_round) (is_white c || is_non_printable c) d)
+    let a : is_quote c || ((c == open_round) || ((c == close_round) || (is_whitespace c || is_non_printable c))) ≡ false = not-true (is_quote c || ((c == open_round) || ((c == close_round) || (is_whitespace c || is_non_printable c)))) h in
+    let b : (c == open_round) || ((c == close_round) || (is_whitespace c || is_non_printable c)) ≡ false = or-false-right (is_quote c) ((c == open_round) || ((c == close_round) || (is_whitespace c || is_non_printable c))) a in
+    let d : (c == close_round) || (is_whitespace c || is_non_printable c) ≡ false = or-false-right (c == open_round) ((c == close_round) || (is_whitespace c || is_non_printable c)) b in
+    or-false-left (is_whitespace c) (is_non_printable c) (or-false-right (c == close_round) (is_whitespace c || is_non_printable c) d)
 
 widened : (parts : List Part) (behind : Text) → AreParts in_url parts behind → AreParts in_bad_url parts behind
 widened [] behind h = tt
 widened (itself c ∷ parts) behind h = (url-no_close c h.0, h.1, widened parts behind h.2)
 widened (escaped c ∷ parts) behind h = (refl, h.1, widened parts behind h.2)
-widened (coded digits blank ∷ parts) behind h = (refl, h.1, widened parts behind h.2)
-widened (joined ∷ parts) behind h = absurd (false≢true h.0)
-widened (cut_off ∷ parts) behind h = (refl, h.1, widened parts behind h.2)
+widened (hex_escape digits blank ∷ parts) behind h = (refl, h.1, widened parts behind h.2)
+widened (escaped_newline ∷ parts) behind h = absurd (false≢true h.0)
+widened (escape_at_end ∷ parts) behind h = (refl, h.1, widened parts behind h.2)
 
 are-append : (allowed : Part → Bool) (xs ys : List Part) (behind : Text) → AreParts allowed xs (parts_text ys ++ behind) → AreParts allowed ys behind → AreParts allowed (xs ++ ys) behind
 are-append allowed [] ys behind h k = k
@@ -68,7 +68,7 @@ bad_url-stop : (xs : Text) → parts_in in_bad_url (close_round ∷ xs) ≡ []
 bad_url-stop xs = parts_in-stop in_bad_url close_round xs refl
 
 -- what stands of a url behind its head is what would stand of a bad url
-pub url-closed : (before after end rest : Text) (parts : List Part) → list_all is_white before ≡ true → AreParts in_url parts (after ++ (end ++ rest)) → list_all is_white after ≡ true → IsEnd (codes ")") end rest
+pub url-closed : (before after end rest : Text) (parts : List Part) → list_all is_whitespace before ≡ true → AreParts in_url parts (after ++ (end ++ rest)) → list_all is_whitespace after ≡ true → IsEnd (codes ")") end rest
     → closed_text in_bad_url close_round (before ++ (parts_text parts ++ (after ++ (end ++ rest)))) ≡ before ++ (parts_text parts ++ (after ++ end))
 url-closed before after end rest parts b p a e =
     let behind : List Part = parts ++ map itself after in
@@ -93,7 +93,7 @@ bad_url-closed end rest parts p e = closed-is in_bad_url close_round bad_url-sto
 -- ---- what is a url by the computation
 
 abbrev pub after_white : Text → Text
-after_white cs = drop (length (run_in is_white cs)) cs
+after_white cs = drop (length (run_in is_whitespace cs)) cs
 
 abbrev pub after_parts : Text → Text
 after_parts cs = behind_parts (parts_in in_url cs) cs
@@ -101,15 +101,15 @@ after_parts cs = behind_parts (parts_in in_url cs) cs
 abbrev pub is_closed : Text → Bool
 is_closed cs = is_empty cs || begins is_close_round cs
 
-after_white-is : (ws cs : Text) → list_all is_white ws ≡ true → begins is_white cs ≡ false → after_white (ws ++ cs) ≡ cs
-after_white-is ws cs a b = ap (λ xs. drop (length xs) (ws ++ cs)) (run_in-is is_white ws cs a b) ∙ drop-append_seam ws cs
+after_white-is : (ws cs : Text) → list_all is_whitespace ws ≡ true → begins is_whitespace cs ≡ false → after_white (ws ++ cs) ≡ cs
+after_white-is ws cs a b = ap (λ xs. drop (length xs) (ws ++ cs)) (run_in-is is_whitespace ws cs a b) ∙ drop-append_seam ws cs
 
 after_parts-is : (parts : List Part) (cs : Text) → AreParts in_url parts cs → parts_in in_url cs ≡ [] → after_parts (parts_text parts ++ cs) ≡ cs
 after_parts-is parts cs p none = ap (λ ps. behind_parts ps (parts_text parts ++ cs)) (parts-stopped in_url parts cs p none) ∙ drop-append_seam (parts_text parts) cs
 
-end-no_white : (end rest : Text) → IsEnd (codes ")") end rest → begins is_white (end ++ rest) ≡ false
-end-no_white end rest (inl e) = ap (λ xs. begins is_white (xs ++ rest)) e
-end-no_white end rest (inr e) = ap (λ xs. begins is_white (xs ++ rest)) e.0 ∙ ap (begins is_white) e.1
+end-no_white : (end rest : Text) → IsEnd (codes ")") end rest → begins is_whitespace (end ++ rest) ≡ false
+end-no_white end rest (inl e) = ap (λ xs. begins is_whitespace (xs ++ rest)) e
+end-no_white end rest (inr e) = ap (λ xs. begins is_whitespace (xs ++ rest)) e.0 ∙ ap (begins is_whitespace) e.1
 
 end-closed : (end rest : Text) → IsEnd (codes ")") end rest → is_closed (end ++ rest) ≡ true
 end-closed end rest (inl e) = ap (λ xs. is_closed (xs ++ rest)) e
@@ -118,27 +118,27 @@ end-closed end rest (inr e) = ap (λ xs. is_closed (xs ++ rest)) e.0 ∙ ap is_c
 url-stop : (xs : Text) → parts_in in_url (close_round ∷ xs) ≡ []
 url-stop xs = parts_in-stop in_url close_round xs refl
 
-white-stop : (after cs : Text) → list_all is_white after ≡ true → parts_in in_url cs ≡ [] → parts_in in_url (after ++ cs) ≡ []
+white-stop : (after cs : Text) → list_all is_whitespace after ≡ true → parts_in in_url cs ≡ [] → parts_in in_url (after ++ cs) ≡ []
 white-stop [] cs a none = none
 white-stop (w ∷ after) cs a none =
-    let white : is_white w ≡ true = and-left (is_white w) (list_all is_white after) a in
+    let white : is_whitespace w ≡ true = and-left (is_whitespace w) (list_all is_whitespace after) a in
     let part : part_in w (after ++ cs) ≡ itself w = pick-false (w == backslash) (escape_in (after ++ cs)) (itself w) ((white-plain w white).1) in
     let no : in_url (itself w) ≡ false = elim (cases_Bool (in_url (itself w))) [ inl t ↦ absurd (true≢false (sym white ∙ url-no_white w t)) | inr f ↦ f ] in
     parts_in-stop in_url w (after ++ cs) (ap in_url part ∙ no)
 
-parts-no_white : (p : Part) (parts : List Part) (cs : Text) → AreParts in_url (p ∷ parts) cs → begins is_white (parts_text (p ∷ parts) ++ cs) ≡ false
+parts-no_white : (p : Part) (parts : List Part) (cs : Text) → AreParts in_url (p ∷ parts) cs → begins is_whitespace (parts_text (p ∷ parts) ++ cs) ≡ false
 parts-no_white (itself c) parts cs h = url-no_white c h.0
 parts-no_white (escaped c) parts cs h = refl
-parts-no_white (coded digits blank) parts cs h = refl
-parts-no_white joined parts cs h = refl
-parts-no_white cut_off parts cs h = refl
+parts-no_white (hex_escape digits blank) parts cs h = refl
+parts-no_white escaped_newline parts cs h = refl
+parts-no_white escape_at_end parts cs h = refl
 
-list_all-both : (xs ys : Text) → list_all is_white xs ≡ true → list_all is_white ys ≡ true → list_all is_white (xs ++ ys) ≡ true
+list_all-both : (xs ys : Text) → list_all is_whitespace xs ≡ true → list_all is_whitespace ys ≡ true → list_all is_whitespace (xs ++ ys) ≡ true
 list_all-both [] ys a b = b
-list_all-both (x ∷ xs) ys a b = both (is_white x) (list_all is_white (xs ++ ys)) (and-left (is_white x) (list_all is_white xs) a) (list_all-both xs ys (and-right (is_white x) (list_all is_white xs) a) b)
+list_all-both (x ∷ xs) ys a b = both (is_whitespace x) (list_all is_whitespace (xs ++ ys)) (and-left (is_whitespace x) (list_all is_whitespace xs) a) (list_all-both xs ys (and-right (is_whitespace x) (list_all is_whitespace xs) a) b)
 
 -- a url of the definition is one by the computation
-pub url-computed : (before after end rest : Text) (parts : List Part) → list_all is_white before ≡ true → AreParts in_url parts (after ++ (end ++ rest)) → list_all is_white after ≡ true → IsEnd (codes ")") end rest
+pub url-computed : (before after end rest : Text) (parts : List Part) → list_all is_whitespace before ≡ true → AreParts in_url parts (after ++ (end ++ rest)) → list_all is_whitespace after ≡ true → IsEnd (codes ")") end rest
     → is_closed (after_white (after_parts (after_white (before ++ (parts_text parts ++ (after ++ (end ++ rest))))))) ≡ true
 url-computed before after end rest [] b p a e =
     let cs : Text = end ++ rest in
@@ -154,8 +154,8 @@ url-computed before after end rest (q ∷ parts) b p a e =
     ∙ (ap (λ xs. is_closed (after_white xs)) (after_parts-is (q ∷ parts) (after ++ cs) p none)
     ∙ (ap is_closed (after_white-is after cs a (end-no_white end rest e)) ∙ end-closed end rest e))
 
--- the parts of a url of the definition are those behind the first white space
-pub url-parts : (before after end rest : Text) (parts : List Part) → list_all is_white before ≡ true → AreParts in_url parts (after ++ (end ++ rest)) → list_all is_white after ≡ true → IsEnd (codes ")") end rest
+-- the parts of a url of the definition are those behind the first whitespace
+pub url-parts : (before after end rest : Text) (parts : List Part) → list_all is_whitespace before ≡ true → AreParts in_url parts (after ++ (end ++ rest)) → list_all is_whitespace after ≡ true → IsEnd (codes ")") end rest
     → parts_in in_url (after_white (before ++ (parts_text parts ++ (after ++ (end ++ rest))))) ≡ parts
 url-parts before after end rest [] b p a e =
     let cs : Text = end ++ rest in

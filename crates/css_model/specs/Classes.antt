@@ -65,12 +65,12 @@ abbrev pub is_letter : ℕ → Bool
 is_letter c = is_between 65 90 c || is_between 97 122 c
 
 -- an ident-start code point: a letter, what is not ASCII, or `_`
-abbrev pub is_name_start : ℕ → Bool
-is_name_start c = is_letter c || (nat_le 128 c || (c == underscore))
+abbrev pub is_ident_start : ℕ → Bool
+is_ident_start c = is_letter c || (nat_le 128 c || (c == underscore))
 
 -- an ident code point: an ident-start code point, a digit or `-`
-abbrev pub is_name_char : ℕ → Bool
-is_name_char c = is_name_start c || (is_digit c || (c == hyphen))
+abbrev pub is_ident_char : ℕ → Bool
+is_ident_char c = is_ident_start c || (is_digit c || (c == hyphen))
 
 -- a non-printable code point: U+0000 to U+0008, U+000B, U+000E to U+001F, or U+007F
 abbrev pub is_non_printable : ℕ → Bool
@@ -79,9 +79,9 @@ is_non_printable c = nat_le c 8 || ((c == 11) || (is_between 14 31 c || (c == 12
 abbrev pub is_newline : ℕ → Bool
 is_newline c = c == newline
 
--- white space: a newline, a tab or a space
-abbrev pub is_white : ℕ → Bool
-is_white c = is_newline c || ((c == tab) || (c == space))
+-- whitespace: a newline, a tab or a space
+abbrev pub is_whitespace : ℕ → Bool
+is_whitespace c = is_newline c || ((c == tab) || (c == space))
 
 abbrev pub is_quote : ℕ → Bool
 is_quote c = (c == double_quote) || (c == single_quote)

@@ -1,7 +1,7 @@
 -- What stands at the front of a text, found by computing: escapes, parts, numbers.
 use Rattle.std.specs.Prelude.{ℕ, zero, suc, pred, ◌==◌, ◌&&◌, ◌||◌, List, [], ◌∷◌, length, drop, Bool, false, if◌then◌else◌}
-use Rattle.css_model.specs.Classes.{Text, backslash, full_stop, is_digit, is_hex_digit, is_newline, is_white, is_sign, begins}
-use Rattle.css_model.specs.Parts.{Part, itself, escaped, coded, joined, cut_off, part_text, parts_text}
+use Rattle.css_model.specs.Classes.{Text, backslash, full_stop, is_digit, is_hex_digit, is_newline, is_whitespace, is_sign, begins}
+use Rattle.css_model.specs.Parts.{Part, itself, escaped, hex_escape, escaped_newline, escape_at_end, part_text, parts_text}
 use Rattle.css_model.specs.Numerals.{Numeral, fraction_text, begins_exponent}
 
 -- the first character, if it is of this class
@@ -22,14 +22,14 @@ hex_digits_in zero cs = []
 hex_digits_in (suc n) [] = []
 hex_digits_in (suc n) (c ∷ cs) = if is_hex_digit c then c ∷ hex_digits_in n cs else []
 
--- the code in front of a text, with the white space behind its digits
-abbrev pub code_in : Text → Part
-code_in cs = coded (hex_digits_in 6 cs) (one_in is_white (drop (length (hex_digits_in 6 cs)) cs))
+-- the code in front of a text, with the whitespace behind its digits
+abbrev pub hex_escape_in : Text → Part
+hex_escape_in cs = hex_escape (hex_digits_in 6 cs) (one_in is_whitespace (drop (length (hex_digits_in 6 cs)) cs))
 
 -- the part that a backslash and the text behind it begin with
 abbrev pub escape_in : Text → Part
-escape_in [] = cut_off
-escape_in (c ∷ cs) = if is_newline c then joined else (if is_hex_digit c then code_in (c ∷ cs) else escaped c)
+escape_in [] = escape_at_end
+escape_in (c ∷ cs) = if is_newline c then escaped_newline else (if is_hex_digit c then hex_escape_in (c ∷ cs) else escaped c)
 
 -- the part that a text begins with
 abbrev pub part_in : ℕ → Text → Part
@@ -56,9 +56,9 @@ begins_unsigned [] = false
 begins_unsigned (c ∷ cs) = is_digit c || ((c == full_stop) && begins is_digit cs)
 
 -- a number begins here (CSS Syntax 3, section 4.3.10)
-abbrev pub begins_number : Text → Bool
-begins_number [] = false
-begins_number (c ∷ cs) = begins_unsigned (if is_sign c then cs else c ∷ cs)
+abbrev pub would_start_number : Text → Bool
+would_start_number [] = false
+would_start_number (c ∷ cs) = begins_unsigned (if is_sign c then cs else c ∷ cs)
 
 -- the digits behind a point that digits follow
 abbrev pub fraction_in : Text → Text

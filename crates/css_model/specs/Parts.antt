@@ -1,7 +1,7 @@
 -- What names, strings and urls are made of: characters and escapes (CSS Syntax 3, sections 4.3.7 and 4.3.8).
 use Rattle.std.specs.Prelude.{◌≡◌, ℕ, ◌+◌, ◌*◌, ◌-◌, ◌≤◌, nat_lt, nat_le, ◌==◌, ◌||◌, ◌&&◌, not, List, [], ◌∷◌, ◌++◌, length, flat_map, Bool, true, false, if◌then◌else◌}
 use Rattle.std.specs.List.{list_all}
-use Rattle.css_model.specs.Classes.{Text, newline, backslash, open_round, close_round, replacement, is_between, is_digit, is_hex_digit, is_name_char, is_non_printable, is_newline, is_white, is_quote, begins, is_empty}
+use Rattle.css_model.specs.Classes.{Text, newline, backslash, open_round, close_round, replacement, is_between, is_digit, is_hex_digit, is_ident_char, is_non_printable, is_newline, is_whitespace, is_quote, begins, is_empty}
 
 -- a character that stands for itself, or a backslash and what it makes of the characters behind it:
 pub data Part : Type 0 where
@@ -9,43 +9,43 @@ pub data Part : Type 0 where
   itself : (c : ℕ) → Part
   -- a backslash and the character that it stands for
   escaped : (c : ℕ) → Part
-  -- a backslash, the hex digits of a character's number, and perhaps a white space
-  coded : (digits blank : Text) → Part
+  -- a backslash, the hex digits of a character's number, and perhaps a whitespace
+  hex_escape : (digits blank : Text) → Part
   -- a backslash and a newline
-  joined : Part
+  escaped_newline : Part
   -- a backslash that is the last character of the text
-  cut_off : Part
+  escape_at_end : Part
 
 -- how a part is written
 abbrev pub part_text : Part → Text
 part_text (itself c) = c ∷ []
 part_text (escaped c) = backslash ∷ c ∷ []
-part_text (coded digits blank) = backslash ∷ (digits ++ blank)
-part_text joined = backslash ∷ newline ∷ []
-part_text cut_off = backslash ∷ []
+part_text (hex_escape digits blank) = backslash ∷ (digits ++ blank)
+part_text escaped_newline = backslash ∷ newline ∷ []
+part_text escape_at_end = backslash ∷ []
 
 abbrev pub parts_text : List Part → Text
 parts_text parts = flat_map part_text parts
 
 -- ---- which parts there are
 
--- at most one white space
+-- at most one whitespace
 abbrev pub is_blank : Text → Bool
 is_blank [] = true
-is_blank (c ∷ cs) = is_white c && is_empty cs
+is_blank (c ∷ cs) = is_whitespace c && is_empty cs
 
 -- a code is as long as it can be: nothing stands behind it that would belong to it
-abbrev pub is_code_over : Text → Text → Text → Bool
-is_code_over digits (c ∷ cs) behind = true
-is_code_over digits [] behind = not (begins is_white behind) && ((length digits == 6) || not (begins is_hex_digit behind))
+abbrev pub is_hex_escape_over : Text → Text → Text → Bool
+is_hex_escape_over digits (c ∷ cs) behind = true
+is_hex_escape_over digits [] behind = not (begins is_whitespace behind) && ((length digits == 6) || not (begins is_hex_digit behind))
 
--- a backslash is never itself; any character may be escaped but a hex digit, which begins a code, and a newline; a code has one to six digits and at most one white space, and is as long as it can be; nothing follows a backslash that is cut off
+-- a backslash is never itself; any character may be escaped but a hex digit, which begins a code, and a newline; a code has one to six digits and at most one whitespace, and is as long as it can be; nothing follows a backslash that is cut off
 abbrev pub IsPart : Part → Text → Type 0
 IsPart (itself c) behind = c == backslash ≡ false
 IsPart (escaped c) behind = (is_hex_digit c ≡ false) × (is_newline c ≡ false)
-IsPart (coded digits blank) behind = (list_all is_hex_digit digits ≡ true) × (1 ≤ length digits) × (length digits ≤ 6) × (is_blank blank ≡ true) × (is_code_over digits blank behind ≡ true)
-IsPart joined behind = Unit {0}
-IsPart cut_off behind = behind ≡ []
+IsPart (hex_escape digits blank) behind = (list_all is_hex_digit digits ≡ true) × (1 ≤ length digits) × (length digits ≤ 6) × (is_blank blank ≡ true) × (is_hex_escape_over digits blank behind ≡ true)
+IsPart escaped_newline behind = Unit {0}
+IsPart escape_at_end behind = behind ≡ []
 
 -- each of these is a part, and of a kind that may stand here
 abbrev pub AreParts : (Part → Bool) → List Part → Text → Type 0
@@ -70,46 +70,46 @@ character_of n = if (n == 0) || (is_between 55296 57343 n || nat_lt 1114111 n) t
 abbrev pub meaning : Part → Text
 meaning (itself c) = c ∷ []
 meaning (escaped c) = c ∷ []
-meaning (coded digits blank) = character_of (hex_value_after 0 digits) ∷ []
-meaning joined = []
-meaning cut_off = replacement ∷ []
+meaning (hex_escape digits blank) = character_of (hex_value_after 0 digits) ∷ []
+meaning escaped_newline = []
+meaning escape_at_end = replacement ∷ []
 
 -- the same in a string, where a backslash at the end of the text stands for nothing
 abbrev pub meaning_in_string : Part → Text
 meaning_in_string (itself c) = c ∷ []
 meaning_in_string (escaped c) = c ∷ []
-meaning_in_string (coded digits blank) = character_of (hex_value_after 0 digits) ∷ []
-meaning_in_string joined = []
-meaning_in_string cut_off = []
+meaning_in_string (hex_escape digits blank) = character_of (hex_value_after 0 digits) ∷ []
+meaning_in_string escaped_newline = []
+meaning_in_string escape_at_end = []
 
 -- ---- which of them may stand where
 
 abbrev pub in_name : Part → Bool
-in_name (itself c) = is_name_char c
+in_name (itself c) = is_ident_char c
 in_name (escaped c) = true
-in_name (coded digits blank) = true
-in_name joined = false
-in_name cut_off = true
+in_name (hex_escape digits blank) = true
+in_name escaped_newline = false
+in_name escape_at_end = true
 
 -- inside a string that this quote began
 abbrev pub in_string : ℕ → Part → Bool
 in_string quote (itself c) = not ((c == quote) || is_newline c)
 in_string quote (escaped c) = true
-in_string quote (coded digits blank) = true
-in_string quote joined = true
-in_string quote cut_off = true
+in_string quote (hex_escape digits blank) = true
+in_string quote escaped_newline = true
+in_string quote escape_at_end = true
 
 abbrev pub in_url : Part → Bool
-in_url (itself c) = not (is_quote c || ((c == open_round) || ((c == close_round) || (is_white c || is_non_printable c))))
+in_url (itself c) = not (is_quote c || ((c == open_round) || ((c == close_round) || (is_whitespace c || is_non_printable c))))
 in_url (escaped c) = true
-in_url (coded digits blank) = true
-in_url joined = false
-in_url cut_off = true
+in_url (hex_escape digits blank) = true
+in_url escaped_newline = false
+in_url escape_at_end = true
 
 -- inside what is left of a bad url: all but the bracket that ends it
 abbrev pub in_bad_url : Part → Bool
 in_bad_url (itself c) = not (c == close_round)
 in_bad_url (escaped c) = true
-in_bad_url (coded digits blank) = true
-in_bad_url joined = true
-in_bad_url cut_off = true
+in_bad_url (hex_escape digits blank) = true
+in_bad_url escaped_newline = true
+in_bad_url escape_at_end = true

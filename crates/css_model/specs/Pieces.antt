@@ -1,13 +1,13 @@
 -- The pieces and the tokens of a text, computed in the way of the standard's algorithm (CSS Syntax 3, section 4.3); that they are those of the definition is a law about them. The meaning is in TokenList, and contracts cite that; this is one way to find it.
 use Rattle.std.specs.Prelude.{ℕ, zero, suc, pred, ◌==◌, ◌&&◌, ◌||◌, not, List, [], ◌∷◌, ◌++◌, length, drop, map, flat_map, codes, Bool, true, false, if◌then◌else◌}
-use Rattle.css_model.specs.Classes.{Text, open_round, close_round, is_white, is_quote, begins, is_empty}
+use Rattle.css_model.specs.Classes.{Text, open_round, close_round, is_whitespace, is_quote, begins, is_empty}
 use Rattle.css_model.specs.Preprocessing.{preprocessed}
-use Rattle.css_model.specs.Tokens.{round, square, curly, Kind, ident, function, at_keyword, hash, string, bad_string, url, bad_url, delim, number, percentage, dimension, white_space, cdo, cdc, colon, semicolon, comma, opening, closing, Token}
+use Rattle.css_model.specs.Tokens.{round, square, curly, Kind, ident, function, at_keyword, hash, string, bad_string, url, bad_url, delim, number, percentage, dimension, whitespace, cdo, cdc, colon, semicolon, comma, opening, closing, Token}
 use Rattle.css_model.specs.Parts.{Part, parts_text, meaning, meaning_in_string, in_name, in_string, in_url, in_bad_url}
 use Rattle.css_model.specs.Numerals.{Numeral, numeral_text, number_of}
-use Rattle.css_model.specs.Spellings.{begins_identifier, quote_follows, is_url_name}
+use Rattle.css_model.specs.Spellings.{would_start_ident, quote_follows, is_url_name}
 use Rattle.css_model.specs.TokenList.{Piece, comment, token, piece_text, tokens_from}
-use Rattle.css_model.specs.Fronts.{one_in, run_in, parts_in, behind_parts, begins_number, numeral_in}
+use Rattle.css_model.specs.Fronts.{one_in, run_in, parts_in, behind_parts, would_start_number, numeral_in}
 
 -- the text begins with these characters
 abbrev pub has_front : Text → Text → Bool
@@ -28,8 +28,8 @@ comment_end [] = []
 comment_end (c ∷ cs) = codes "*/"
 
 -- the comment of which this stands behind `/*`
-abbrev pub comment_piece : Text → Piece
-comment_piece cs = comment (codes "/*" ++ (comment_inside cs ++ comment_end (drop (length (comment_inside cs)) cs)))
+abbrev pub consume_comment : Text → Piece
+consume_comment cs = comment (codes "/*" ++ (comment_inside cs ++ comment_end (drop (length (comment_inside cs)) cs)))
 
 -- ---- strings (4.3.5)
 
@@ -42,8 +42,8 @@ string_of_parts quote parts (c ∷ cs) =
     else token bad_string (quote ∷ parts_text parts)
 
 -- the string of which this stands behind its quote
-abbrev pub string_piece : ℕ → Text → Piece
-string_piece quote cs = string_of_parts quote (parts_in (in_string quote) cs) (behind_parts (parts_in (in_string quote) cs) cs)
+abbrev pub consume_string : ℕ → Text → Piece
+consume_string quote cs = string_of_parts quote (parts_in (in_string quote) cs) (behind_parts (parts_in (in_string quote) cs) cs)
 
 -- ---- urls (4.3.6, 4.3.14)
 
@@ -51,49 +51,49 @@ abbrev pub is_close_round : ℕ → Bool
 is_close_round c = c == close_round
 
 -- the bad url of this head, where this stands behind it
-abbrev pub bad_url_piece : Text → Text → Piece
-bad_url_piece head cs = token bad_url (head ++ (parts_text (parts_in in_bad_url cs) ++ one_in is_close_round (behind_parts (parts_in in_bad_url cs) cs)))
+abbrev pub consume_bad_url_remnants : Text → Text → Piece
+consume_bad_url_remnants head cs = token bad_url (head ++ (parts_text (parts_in in_bad_url cs) ++ one_in is_close_round (behind_parts (parts_in in_bad_url cs) cs)))
 
--- the url of this head, white space, parts and white space, where `cs` stands behind them, or else a bad url
+-- the url of this head, whitespace, parts and whitespace, where `cs` stands behind them, or else a bad url
 abbrev pub url_of_parts : Text → Text → Text → List Part → Text → Text → Piece
 url_of_parts head inside before parts after cs =
     if is_empty cs || begins is_close_round cs
     then token (url (flat_map meaning parts)) (head ++ (before ++ (parts_text parts ++ (after ++ one_in is_close_round cs))))
-    else bad_url_piece head inside
+    else consume_bad_url_remnants head inside
 
 -- the same, where `cs` stands behind the parts
 abbrev pub url_behind_parts : Text → Text → Text → List Part → Text → Piece
-url_behind_parts head inside before parts cs = url_of_parts head inside before parts (run_in is_white cs) (drop (length (run_in is_white cs)) cs)
+url_behind_parts head inside before parts cs = url_of_parts head inside before parts (run_in is_whitespace cs) (drop (length (run_in is_whitespace cs)) cs)
 
--- the same, where `cs` stands behind the first white space
+-- the same, where `cs` stands behind the first whitespace
 abbrev pub url_behind_white : Text → Text → Text → Text → Piece
 url_behind_white head inside before cs = url_behind_parts head inside before (parts_in in_url cs) (behind_parts (parts_in in_url cs) cs)
 
 -- the url or bad url of this head, where `inside` stands behind it
-abbrev pub url_piece : Text → Text → Piece
-url_piece head inside = url_behind_white head inside (run_in is_white inside) (drop (length (run_in is_white inside)) inside)
+abbrev pub consume_url : Text → Text → Piece
+consume_url head inside = url_behind_white head inside (run_in is_whitespace inside) (drop (length (run_in is_whitespace inside)) inside)
 
 -- ---- identifiers (4.3.4)
 
 -- the token that these parts of a name begin, where this stands behind them
-abbrev pub name_piece : List Part → Text → Piece
-name_piece parts [] = token (ident (flat_map meaning parts)) (parts_text parts)
-name_piece parts (c ∷ cs) =
+abbrev pub consume_ident_like : List Part → Text → Piece
+consume_ident_like parts [] = token (ident (flat_map meaning parts)) (parts_text parts)
+consume_ident_like parts (c ∷ cs) =
     if c == open_round
-    then (if is_url_name (flat_map meaning parts) && not (quote_follows cs) then url_piece (parts_text parts ++ codes "(") cs else token (function (flat_map meaning parts)) (parts_text parts ++ codes "("))
+    then (if is_url_name (flat_map meaning parts) && not (quote_follows cs) then consume_url (parts_text parts ++ codes "(") cs else token (function (flat_map meaning parts)) (parts_text parts ++ codes "("))
     else token (ident (flat_map meaning parts)) (parts_text parts)
 
 -- ---- numbers (4.3.3)
 
 -- a number that nothing but these parts of a name could follow as its unit
-abbrev pub number_piece : Numeral → List Part → Text → Piece
-number_piece w unit cs =
-    if begins_identifier unit
+abbrev pub numeric_of_parts : Numeral → List Part → Text → Piece
+numeric_of_parts w unit cs =
+    if would_start_ident unit
     then token (dimension (number_of w) (flat_map meaning unit)) (numeral_text w ++ parts_text unit)
     else (if has_front (codes "%") cs then token (percentage (number_of w)) (numeral_text w ++ codes "%") else token (number (number_of w)) (numeral_text w ++ []))
 
-abbrev pub behind_number : Numeral → Text → Piece
-behind_number w cs = number_piece w (parts_in in_name cs) cs
+abbrev pub consume_numeric : Numeral → Text → Piece
+consume_numeric w cs = numeric_of_parts w (parts_in in_name cs) cs
 
 -- ---- single characters
 
@@ -112,23 +112,23 @@ single_piece c = token (kind_of c) (c ∷ [])
 -- `#` or `@` with these parts of a name behind it, or alone
 abbrev pub marked_piece : ℕ → List Part → Piece
 marked_piece c parts =
-    if (c == 35) && not (is_empty (parts_text parts)) then token (hash (flat_map meaning parts) (begins_identifier parts)) (codes "#" ++ parts_text parts)
-    else (if (c == 64) && begins_identifier parts then token (at_keyword (flat_map meaning parts)) (codes "@" ++ parts_text parts) else single_piece c)
+    if (c == 35) && not (is_empty (parts_text parts)) then token (hash (flat_map meaning parts) (would_start_ident parts)) (codes "#" ++ parts_text parts)
+    else (if (c == 64) && would_start_ident parts then token (at_keyword (flat_map meaning parts)) (codes "@" ++ parts_text parts) else single_piece c)
 
--- the piece of a text that begins with no white space, quote, comment or number, of which these parts of a name stand in front
+-- the piece of a text that begins with no whitespace, quote, comment or number, of which these parts of a name stand in front
 abbrev pub other_piece : List Part → ℕ → Text → Piece
 other_piece parts c cs =
     if has_front (codes "-->") (c ∷ cs) then token cdc (codes "-->")
-    else (if begins_identifier parts then name_piece parts (behind_parts parts (c ∷ cs))
+    else (if would_start_ident parts then consume_ident_like parts (behind_parts parts (c ∷ cs))
     else (if has_front (codes "<!--") (c ∷ cs) then token cdo (codes "<!--") else marked_piece c (parts_in in_name cs)))
 
 -- the first piece of a text
 abbrev pub first_piece : ℕ → Text → Piece
 first_piece c cs =
-    if is_white c then token white_space (run_in is_white (c ∷ cs))
-    else (if is_quote c then string_piece c cs
-    else (if has_front (codes "/*") (c ∷ cs) then comment_piece (drop 1 cs)
-    else (if begins_number (c ∷ cs) then behind_number (numeral_in (c ∷ cs)) (drop (length (numeral_text (numeral_in (c ∷ cs)))) (c ∷ cs))
+    if is_whitespace c then token whitespace (run_in is_whitespace (c ∷ cs))
+    else (if is_quote c then consume_string c cs
+    else (if has_front (codes "/*") (c ∷ cs) then consume_comment (drop 1 cs)
+    else (if would_start_number (c ∷ cs) then consume_numeric (numeral_in (c ∷ cs)) (drop (length (numeral_text (numeral_in (c ∷ cs)))) (c ∷ cs))
     else other_piece (parts_in in_name (c ∷ cs)) c cs)))
 
 -- ---- all pieces, and the tokens

@@ -2,9 +2,9 @@
 use Rattle.std.specs.Prelude.{◌≡◌, ◌⊎◌, ℕ, ◌==◌, ◌||◌, ◌&&◌, not, List, [], ◌∷◌, ◌++◌, codes, flat_map, Bool, true, false}
 use Rattle.std.specs.List.{list_all}
 use Rattle.std.specs.Str.{str_eq_ignore_ascii_case}
-use Rattle.css_model.specs.Classes.{Text, hyphen, backslash, is_digit, is_name_start, is_newline, is_white, is_quote, begins, is_empty}
-use Rattle.css_model.specs.Tokens.{Number, Bracket, round, square, curly, Kind, ident, function, at_keyword, hash, string, bad_string, url, bad_url, delim, number, percentage, dimension, white_space, cdo, cdc, colon, semicolon, comma, opening, closing}
-use Rattle.css_model.specs.Parts.{Part, itself, escaped, coded, joined, cut_off, parts_text, AreParts, meaning, meaning_in_string, in_name, in_string, in_url, in_bad_url}
+use Rattle.css_model.specs.Classes.{Text, hyphen, backslash, is_digit, is_ident_start, is_newline, is_whitespace, is_quote, begins, is_empty}
+use Rattle.css_model.specs.Tokens.{Number, Bracket, round, square, curly, Kind, ident, function, at_keyword, hash, string, bad_string, url, bad_url, delim, number, percentage, dimension, whitespace, cdo, cdc, colon, semicolon, comma, opening, closing}
+use Rattle.css_model.specs.Parts.{Part, itself, escaped, hex_escape, escaped_newline, escape_at_end, parts_text, AreParts, meaning, meaning_in_string, in_name, in_string, in_url, in_bad_url}
 use Rattle.css_model.specs.Numerals.{Numeral, numeral_text, IsNumeral, begins_exponent, number_of}
 
 -- ---- names and identifiers (4.3.9, 4.3.11)
@@ -12,20 +12,20 @@ use Rattle.css_model.specs.Numerals.{Numeral, numeral_text, IsNumeral, begins_ex
 -- what may stand behind a leading `-`: a start of a name, an escape or another `-`
 abbrev pub follows_hyphen : List Part → Bool
 follows_hyphen [] = false
-follows_hyphen (itself c ∷ parts) = is_name_start c || (c == hyphen)
+follows_hyphen (itself c ∷ parts) = is_ident_start c || (c == hyphen)
 follows_hyphen (escaped c ∷ parts) = true
-follows_hyphen (coded digits blank ∷ parts) = true
-follows_hyphen (joined ∷ parts) = false
-follows_hyphen (cut_off ∷ parts) = true
+follows_hyphen (hex_escape digits blank ∷ parts) = true
+follows_hyphen (escaped_newline ∷ parts) = false
+follows_hyphen (escape_at_end ∷ parts) = true
 
 -- these parts of a name begin as an identifier does
-abbrev pub begins_identifier : List Part → Bool
-begins_identifier [] = false
-begins_identifier (itself c ∷ parts) = is_name_start c || ((c == hyphen) && follows_hyphen parts)
-begins_identifier (escaped c ∷ parts) = true
-begins_identifier (coded digits blank ∷ parts) = true
-begins_identifier (joined ∷ parts) = false
-begins_identifier (cut_off ∷ parts) = true
+abbrev pub would_start_ident : List Part → Bool
+would_start_ident [] = false
+would_start_ident (itself c ∷ parts) = is_ident_start c || ((c == hyphen) && follows_hyphen parts)
+would_start_ident (escaped c ∷ parts) = true
+would_start_ident (hex_escape digits blank ∷ parts) = true
+would_start_ident (escaped_newline ∷ parts) = false
+would_start_ident (escape_at_end ∷ parts) = true
 
 -- `s` spells this name, which is an identifier or not, where `rest` stands behind
 pub record IsName (name : Text) (is_id : Bool) (s rest : Text) : Type 0 where
@@ -33,7 +33,7 @@ pub record IsName (name : Text) (is_id : Bool) (s rest : Text) : Type 0 where
   pub spelling : s ≡ parts_text parts
   pub are_parts : AreParts in_name parts rest
   pub means : flat_map meaning parts ≡ name
-  pub identifier : begins_identifier parts ≡ is_id
+  pub identifier : would_start_ident parts ≡ is_id
 
 -- ---- what ends with the text if it is not closed
 
@@ -65,10 +65,10 @@ pub record IsBadString (s rest : Text) : Type 0 where
 
 -- ---- functions and urls (4.3.4, 4.3.6, 4.3.14)
 
--- a quote follows, with or without white space between
+-- a quote follows, with or without whitespace between
 abbrev pub quote_follows : Text → Bool
 quote_follows [] = false
-quote_follows (c ∷ cs) = is_quote c || (is_white c && quote_follows cs)
+quote_follows (c ∷ cs) = is_quote c || (is_whitespace c && quote_follows cs)
 
 -- the name of urls, in any case
 abbrev pub is_url_name : Text → Bool
@@ -90,7 +90,7 @@ pub record IsUrlHead (s rest : Text) : Type 0 where
   pub url_name : is_url_name name ≡ true
   pub no_quote : quote_follows rest ≡ false
 
--- the head, characters and escapes with white space around them, and `)` or the end of the text
+-- the head, characters and escapes with whitespace around them, and `)` or the end of the text
 pub record IsUrl (value s rest : Text) : Type 0 where
   pub head : Text
   pub before : Text
@@ -99,9 +99,9 @@ pub record IsUrl (value s rest : Text) : Type 0 where
   pub end : Text
   pub spelling : s ≡ head ++ (before ++ (parts_text parts ++ (after ++ end)))
   pub is_head : IsUrlHead head (before ++ (parts_text parts ++ (after ++ (end ++ rest))))
-  pub white_before : list_all is_white before ≡ true
+  pub whitespace_before : list_all is_whitespace before ≡ true
   pub are_parts : AreParts in_url parts (after ++ (end ++ rest))
-  pub white_after : list_all is_white after ≡ true
+  pub whitespace_after : list_all is_whitespace after ≡ true
   pub means : flat_map meaning parts ≡ value
   pub ends : IsEnd (codes ")") end rest
 
@@ -154,7 +154,7 @@ is_one_of (d ∷ ds) c = (c == d) || is_one_of ds c
 
 -- a token of another class begins with this character wherever it stands
 abbrev pub begins_other : ℕ → Bool
-begins_other c = is_white c || (is_quote c || (is_digit c || (is_name_start c || is_one_of (codes ":;,()[]{}") c)))
+begins_other c = is_whitespace c || (is_quote c || (is_digit c || (is_ident_start c || is_one_of (codes ":;,()[]{}") c)))
 
 -- any other character; a backslash at the end of the text is an identifier
 pub record IsDelim (c : ℕ) (s rest : Text) : Type 0 where
@@ -178,7 +178,7 @@ Spells (delim c) s rest = IsDelim c s rest
 Spells (number n) s rest = IsNumber n [] s
 Spells (percentage n) s rest = IsNumber n (codes "%") s
 Spells (dimension n unit) s rest = IsDimension n unit s rest
-Spells white_space s rest = (list_all is_white s ≡ true) × (is_empty s ≡ false)
+Spells whitespace s rest = (list_all is_whitespace s ≡ true) × (is_empty s ≡ false)
 Spells cdo s rest = s ≡ codes "<!--"
 Spells cdc s rest = s ≡ codes "-->"
 Spells colon s rest = s ≡ codes ":"

@@ -27,7 +27,7 @@ pub data Kind : Type 0 where
   number : (n : Number) → Kind
   percentage : (n : Number) → Kind
   dimension : (n : Number) (unit : Text) → Kind
-  white_space : Kind
+  whitespace : Kind
   cdo : Kind
   cdc : Kind
   colon : Kind

@@ -1,17 +1,17 @@
 //! The tokens of some texts, as the standard has them.
 ghost use Rattle.css_model.specs.Classes.{replacement};
 ghost use Rattle.css_model.specs.Pieces.{tokens, kinds};
-ghost use Rattle.css_model.specs.Tokens.{ident, string, bad_string, white_space, delim, number, percentage, dimension, hash, function, url, bad_url, closing, round, colon, cdc, cdo};
+ghost use Rattle.css_model.specs.Tokens.{ident, string, bad_string, whitespace, delim, number, percentage, dimension, hash, function, url, bad_url, closing, round, colon, cdc, cdo};
 ghost use Rattle.std.specs.Prelude.{◌≡◌, ◌∷◌, [], ◌^◌, ◌-◌, codes, pos, negsuc, true, false};
 
 /// Escapes in names and strings (CSS Syntax 3, section 4.3.7): a code of six digits ends by
-/// itself, a shorter one by one white space or by what is no hex digit.
+/// itself, a shorter one by one whitespace or by what is no hex digit.
 #[tactic(auto, unfolding(crate::specs::Pieces::pieces_after, crate::specs::Fronts::parts_after))]
 pub fn examples_of_escapes()
     ensures six_digits { kinds (codes "\\000041b") ≡ ident (codes "Ab") ∷ [] }
     ensures six_digits_and_blank { kinds (codes "\\000041 b") ≡ ident (codes "Ab") ∷ [] }
     ensures two_digits_and_blank { kinds (codes "\\41 b") ≡ ident (codes "Ab") ∷ [] }
-    ensures two_blanks { kinds (codes "\\41  b") ≡ ident (codes "A") ∷ white_space ∷ ident (codes "b") ∷ [] }
+    ensures two_blanks { kinds (codes "\\41  b") ≡ ident (codes "A") ∷ whitespace ∷ ident (codes "b") ∷ [] }
     ensures two_digits { kinds (codes "\\4Az") ≡ ident (codes "Jz") ∷ [] }
     ensures zero { kinds (codes "\\0") ≡ ident (replacement ∷ []) ∷ [] }
     ensures before_surrogates { kinds (codes "\\d7ff") ≡ ident (55295 ∷ []) ∷ [] }
@@ -24,7 +24,7 @@ pub fn examples_of_escapes()
     ensures end_of_text { kinds (codes "a\\") ≡ ident (97 ∷ replacement ∷ []) ∷ [] }
     ensures end_of_string { kinds (codes "'a\\") ≡ string (codes "a") ∷ [] }
     ensures joined_lines { kinds (codes "'a\\\nb'") ≡ string (codes "ab") ∷ [] }
-    ensures no_escape { kinds (codes "\\\n") ≡ delim 92 ∷ white_space ∷ [] }
+    ensures no_escape { kinds (codes "\\\n") ≡ delim 92 ∷ whitespace ∷ [] }
 {}
 
 /// Numbers (CSS Syntax 3, sections 4.3.3, 4.3.12 and 4.3.13) in millionths, cut towards zero and
@@ -64,7 +64,7 @@ pub fn examples_of_classes()
     ensures ids { kinds (codes "#a") ≡ hash (codes "a") true ∷ [] }
     ensures hashes { kinds (codes "#1a") ≡ hash (codes "1a") false ∷ [] }
     ensures strings { kinds (codes "\"a'") ≡ string (codes "a'") ∷ [] }
-    ensures bad_strings { kinds (codes "'a\nb") ≡ bad_string ∷ white_space ∷ ident (codes "b") ∷ [] }
+    ensures bad_strings { kinds (codes "'a\nb") ≡ bad_string ∷ whitespace ∷ ident (codes "b") ∷ [] }
     ensures comments { kinds (codes "a/*b*/c/*") ≡ ident (codes "a") ∷ ident (codes "c") ∷ [] }
 {}
 
@@ -72,7 +72,7 @@ pub fn examples_of_classes()
 /// sections 3.3 and 4).
 #[tactic(auto, unfolding(crate::specs::Pieces::pieces_after, crate::specs::Fronts::parts_after))]
 pub fn examples_of_places()
-    ensures behind_a_comment { tokens (codes "\t/**/a") ≡ record { kind = white_space; start = 0; spelling = codes "\t" } ∷ record { kind = ident (codes "a"); start = 5; spelling = codes "a" } ∷ [] }
+    ensures behind_a_comment { tokens (codes "\t/**/a") ≡ record { kind = whitespace; start = 0; spelling = codes "\t" } ∷ record { kind = ident (codes "a"); start = 5; spelling = codes "a" } ∷ [] }
     ensures behind_an_escape { tokens (codes "\\41 b:") ≡ record { kind = ident (codes "Ab"); start = 0; spelling = codes "\\41 b" } ∷ record { kind = colon; start = 5; spelling = codes ":" } ∷ [] }
-    ensures preprocessed { tokens (13 ∷ 10 ∷ 12 ∷ 13 ∷ 13 ∷ 0 ∷ []) ≡ record { kind = white_space; start = 0; spelling = codes "\n\n\n\n" } ∷ record { kind = ident (replacement ∷ []); start = 4; spelling = replacement ∷ [] } ∷ [] }
+    ensures preprocessed { tokens (13 ∷ 10 ∷ 12 ∷ 13 ∷ 13 ∷ 0 ∷ []) ≡ record { kind = whitespace; start = 0; spelling = codes "\n\n\n\n" } ∷ record { kind = ident (replacement ∷ []); start = 4; spelling = replacement ∷ [] } ∷ [] }
 {}

@@ -8,18 +8,18 @@ use Rattle.css_model.specs.Parts.{Part, parts_text, meaning, in_name}
 use Rattle.css_model.specs.Fronts.{parts_in, behind_parts}
 use Rattle.css_model.specs.Spellings.{is_url_name, quote_follows}
 use Rattle.css_model.specs.TokenList.{token}
-use Rattle.css_model.specs.Pieces.{url_piece, name_piece}
+use Rattle.css_model.specs.Pieces.{consume_url, consume_ident_like}
 
 abbrev pub opens : Text → Bool
 opens cs = begins (λ c. c == open_round) cs
 
 name-url : (parts : List Part) (cs : Text) → opens cs ≡ true → (is_url_name (flat_map meaning parts) && not (quote_follows (drop 1 cs))) ≡ true
-    → name_piece parts cs ≡ url_piece (parts_text parts ++ codes "(") (drop 1 cs)
+    → consume_ident_like parts cs ≡ consume_url (parts_text parts ++ codes "(") (drop 1 cs)
 name-url parts [] t u = absurd (false≢true t)
 name-url parts (c ∷ cs) t u = rw (t, u) refl
 
 name-function : (parts : List Part) (cs : Text) → opens cs ≡ true → (is_url_name (flat_map meaning parts) && not (quote_follows (drop 1 cs))) ≡ false
-    → name_piece parts cs ≡ token (function (flat_map meaning parts)) (parts_text parts ++ codes "(")
+    → consume_ident_like parts cs ≡ token (function (flat_map meaning parts)) (parts_text parts ++ codes "(")
 name-function parts [] t u = absurd (false≢true t)
 name-function parts (c ∷ cs) t u = rw (t, u) refl
 
@@ -40,16 +40,16 @@ behind-head : (cs : Text) (count : ℕ) (name : Text) → Read cs count name →
 behind-head cs count name r = ap (λ n. drop 1 (drop n cs)) (sym r.counted) ∙ drop-drop 1 count cs
 
 pub read-url : (cs : Text) (count : ℕ) (name : Text) → Read cs count name → opens (drop count cs) ≡ true → (is_url_name name && not (quote_follows (drop (count + 1) cs))) ≡ true
-    → name_piece (parts_in in_name cs) (behind_parts (parts_in in_name cs) cs) ≡ url_piece (head_of cs) (drop (count + 1) cs)
+    → consume_ident_like (parts_in in_name cs) (behind_parts (parts_in in_name cs) cs) ≡ consume_url (head_of cs) (drop (count + 1) cs)
 read-url cs count name r t u =
     let parts : List Part = parts_in in_name cs in
     let after : drop 1 (behind_parts parts cs) ≡ drop (count + 1) cs = behind-head cs count name r in
     let test : (is_url_name (flat_map meaning parts) && not (quote_follows (drop 1 (behind_parts parts cs)))) ≡ true =
     ap (λ xs. is_url_name (flat_map meaning parts) && not (quote_follows xs)) after ∙ (ap (λ m. is_url_name m && not (quote_follows (drop (count + 1) cs))) (sym r.named) ∙ u) in
-    name-url parts (behind_parts parts cs) (ap (λ n. opens (drop n cs)) (sym r.counted) ∙ t) test ∙ ap (url_piece (head_of cs)) after
+    name-url parts (behind_parts parts cs) (ap (λ n. opens (drop n cs)) (sym r.counted) ∙ t) test ∙ ap (consume_url (head_of cs)) after
 
 pub read-function : (cs : Text) (count : ℕ) (name : Text) → Read cs count name → opens (drop count cs) ≡ true → (is_url_name name && not (quote_follows (drop (count + 1) cs))) ≡ false
-    → name_piece (parts_in in_name cs) (behind_parts (parts_in in_name cs) cs) ≡ token (function name) (head_of cs)
+    → consume_ident_like (parts_in in_name cs) (behind_parts (parts_in in_name cs) cs) ≡ token (function name) (head_of cs)
 read-function cs count name r t u =
     let parts : List Part = parts_in in_name cs in
     let after : drop 1 (behind_parts parts cs) ≡ drop (count + 1) cs = behind-head cs count name r in

@@ -12,7 +12,7 @@ use Rattle.css_tokens.specs.declared.component.Component.{Component}
 use Rattle.css_tokens.specs.declared.component.Component.TheVariants.{One, rolls-One}
 use Rattle.css_tokens.specs.declared.component.Component.TheOpen.{Component-F}
 use Rattle.css_tokens.specs.declared.component.Component.TheFolds.{fold-roll-Component}
-use Rattle.css_tokens.specs.declared.nesting.Frame.{Frame}
+use Rattle.css_tokens.specs.declared.nesting.OpenBracket.{OpenBracket}
 use Rattle.css_tokens.specs.declared.fault.TokenFault.{TokenFault}
 use Rattle.css_tokens.specs.declared.fault.TokenFault.TheVariants.{TooDeep}
 use Rattle.css_tokens.specs.declared.nesting.Nesting.{Nesting}
@@ -37,52 +37,52 @@ followed-followed (component c cs) ds es = ap (component c) (followed-followed c
 onto-followed : (cs ds : Components) (l : Levels) → onto cs (onto ds l) ≡ onto (followed cs ds) l
 onto-followed cs ds (levels contents outside) = ap (λ es. levels es outside) (followed-followed cs ds contents)
 
-around-more : (frames : List Frame) (f : Frame) (l : Levels) → around (frames ++ f ∷ []) l ≡ around frames (onto (components_view f.before) (enclosed (token_view f.head) l))
+around-more : (open_brackets : List OpenBracket) (f : OpenBracket) (l : Levels) → around (open_brackets ++ f ∷ []) l ≡ around open_brackets (onto (components_view f.before) (enclosed (token_view f.head) l))
 around-more [] f l = refl
-around-more (e ∷ frames) f l = ap (λ m. onto (components_view e.before) (enclosed (token_view e.head) m)) (around-more frames f l)
+around-more (e ∷ open_brackets) f l = ap (λ m. onto (components_view e.before) (enclosed (token_view e.head) m)) (around-more open_brackets f l)
 
-heads-more : (frames : List Frame) (f : Frame) → heads_of (frames ++ f ∷ []) ≡ token_view f.head ∷ heads_of frames
-heads-more frames f = fold_push (λ heads (f : Frame). token_view f.head ∷ heads) [] frames f
+heads-more : (open_brackets : List OpenBracket) (f : OpenBracket) → heads_of (open_brackets ++ f ∷ []) ≡ token_view f.head ∷ heads_of open_brackets
+heads-more open_brackets f = fold_push (λ heads (f : OpenBracket). token_view f.head ∷ heads) [] open_brackets f
 
 -- ---- what follows
 
-pub rest-start : (n : Nesting) (rest : List model.Token) → n.frames ≡ [] → n.contents ≡ [] → with_rest n rest ≡ nesting rest
+pub rest-start : (n : Nesting) (rest : List model.Token) → n.open_brackets ≡ [] → n.contents ≡ [] → with_rest n rest ≡ nesting rest
 rest-start n rest f c = rw (f, c, onto-nothing) refl
 
-pub rest-alone : (before after : Nesting) (t : model.Token) (rest : List model.Token) → is_some (opened_by t.kind) ≡ false → closes (innermost (heads_of before.frames)) t.kind ≡ false
-    → after.frames ≡ before.frames → components_view after.contents ≡ followed (components_view before.contents) (component (one t) no_components)
+pub rest-alone : (before after : Nesting) (t : model.Token) (rest : List model.Token) → is_some (opened_by t.kind) ≡ false → closes (innermost (heads_of before.open_brackets)) t.kind ≡ false
+    → after.open_brackets ≡ before.open_brackets → components_view after.contents ≡ followed (components_view before.contents) (component (one t) no_components)
     → with_rest after rest ≡ with_rest before (t ∷ rest)
 rest-alone before after t rest o c f is =
-    rw (f, is, levels-alone (heads_of before.frames) t rest o c, alone-onto, onto-followed) refl
+    rw (f, is, levels-alone (heads_of before.open_brackets) t rest o c, alone-onto, onto-followed) refl
 
-pub rest-opening : (before after : Nesting) (frame : Frame) (rest : List model.Token) → is_some (opened_by (token_view frame.head).kind) ≡ true
-    → after.frames ≡ before.frames ++ frame ∷ [] → frame.before ≡ before.contents → after.contents ≡ []
-    → with_rest after rest ≡ with_rest before (token_view frame.head ∷ rest)
-rest-opening before after frame rest o f b c =
-    rw (f, c, heads-more, around-more, onto-nothing, b, levels-opening (heads_of before.frames) (token_view frame.head) rest o) refl
+pub rest-opening : (before after : Nesting) (open_bracket : OpenBracket) (rest : List model.Token) → is_some (opened_by (token_view open_bracket.head).kind) ≡ true
+    → after.open_brackets ≡ before.open_brackets ++ open_bracket ∷ [] → open_bracket.before ≡ before.contents → after.contents ≡ []
+    → with_rest after rest ≡ with_rest before (token_view open_bracket.head ∷ rest)
+rest-opening before after open_bracket rest o f b c =
+    rw (f, c, heads-more, around-more, onto-nothing, b, levels-opening (heads_of before.open_brackets) (token_view open_bracket.head) rest o) refl
 
 rest-ends : (before after : Nesting) (close : Option Token) (ends : Ends before close after) (now later : Levels)
-    → enclosed (token_view ends.frame.head) (onto (components_view before.contents) now) ≡ onto (component (bracketed (token_view ends.frame.head) (components_view before.contents) (option_map token_view close)) no_components) later
-    → around before.frames (onto (components_view before.contents) now) ≡ around after.frames (onto (components_view after.contents) later)
+    → enclosed (token_view ends.open_bracket.head) (onto (components_view before.contents) now) ≡ onto (component (bracketed (token_view ends.open_bracket.head) (components_view before.contents) (option_map token_view close)) no_components) later
+    → around before.open_brackets (onto (components_view before.contents) now) ≡ around after.open_brackets (onto (components_view after.contents) later)
 rest-ends before after close ends now later e =
-    rw (ends.frames, ends.contents, around-more, e, onto-followed) refl
+    rw (ends.open_brackets, ends.contents, around-more, e, onto-followed) refl
 
-pub rest-closing : (before after : Nesting) (t : Token) (rest : List model.Token) → is_some (opened_by (token_view t).kind) ≡ false → closes (innermost (heads_of before.frames)) (token_view t).kind ≡ true
+pub rest-closing : (before after : Nesting) (t : Token) (rest : List model.Token) → is_some (opened_by (token_view t).kind) ≡ false → closes (innermost (heads_of before.open_brackets)) (token_view t).kind ≡ true
     → Ends before (Some t) after → with_rest after rest ≡ with_rest before (token_view t ∷ rest)
 rest-closing before after t rest o c ends =
-    let head : model.Token = token_view ends.frame.head in
-    let heads : heads_of before.frames ≡ head ∷ heads_of after.frames = ap heads_of ends.frames ∙ heads-more after.frames ends.frame in
-    let now : levels_of (heads_of before.frames) (token_view t ∷ rest) ≡ closed (token_view t) (levels_of (heads_of after.frames) rest) =
-    levels-closing (heads_of before.frames) (token_view t) rest o c ∙ ap (λ hs. closed (token_view t) (levels_of (drop 1 hs) rest)) heads in
-    let later : Levels = levels_of (heads_of after.frames) rest in
+    let head : model.Token = token_view ends.open_bracket.head in
+    let heads : heads_of before.open_brackets ≡ head ∷ heads_of after.open_brackets = ap heads_of ends.open_brackets ∙ heads-more after.open_brackets ends.open_bracket in
+    let now : levels_of (heads_of before.open_brackets) (token_view t ∷ rest) ≡ closed (token_view t) (levels_of (heads_of after.open_brackets) rest) =
+    levels-closing (heads_of before.open_brackets) (token_view t) rest o c ∙ ap (λ hs. closed (token_view t) (levels_of (drop 1 hs) rest)) heads in
+    let later : Levels = levels_of (heads_of after.open_brackets) rest in
     rw now (sym (ap contents_of (rest-ends before after (Some t) ends (closed (token_view t) later) later (enclosed-closed head (token_view t) (components_view before.contents) later))))
 
 pub rest-end : (before after : Nesting) → Ends before None after → with_rest after [] ≡ with_rest before []
 rest-end before after ends =
     let nothing : Levels = levels no_components [] in
-    rw (levels-end (heads_of before.frames), levels-end (heads_of after.frames)) (sym (ap contents_of (rest-ends before after None ends nothing nothing (enclosed-end (token_view ends.frame.head) (components_view before.contents)))))
+    rw (levels-end (heads_of before.open_brackets), levels-end (heads_of after.open_brackets)) (sym (ap contents_of (rest-ends before after None ends nothing nothing (enclosed-end (token_view ends.open_bracket.head) (components_view before.contents)))))
 
-pub rest-none : (n : Nesting) → n.frames ≡ [] → with_rest n [] ≡ components_view n.contents
+pub rest-none : (n : Nesting) → n.open_brackets ≡ [] → with_rest n [] ≡ components_view n.contents
 rest-none n f = rw (f, levels-end []) (followed-nothing (components_view n.contents))
 
 -- ---- how deep brackets nest
@@ -112,67 +112,67 @@ depths-onto cs (levels contents outside) =
     let is : depths (followed cs contents) ≡ max (depths cs) (depths contents) = depths-followed cs contents in
     omega (arith, is)
 
-depths-around : (frames : List Frame) (l : Levels) → length frames + depths (contents_of l) ≤ depths (contents_of (around frames l))
+depths-around : (open_brackets : List OpenBracket) (l : Levels) → length open_brackets + depths (contents_of l) ≤ depths (contents_of (around open_brackets l))
 depths-around [] l = omega arith
-depths-around (f ∷ frames) l =
-    let inside : length frames + depths (contents_of l) ≤ depths (contents_of (around frames l)) = depths-around frames l in
-    let bracket = depths-enclosed (token_view f.head) (around frames l) in
-    let front = depths-onto (components_view f.before) (enclosed (token_view f.head) (around frames l)) in
+depths-around (f ∷ open_brackets) l =
+    let inside : length open_brackets + depths (contents_of l) ≤ depths (contents_of (around open_brackets l)) = depths-around open_brackets l in
+    let bracket = depths-enclosed (token_view f.head) (around open_brackets l) in
+    let front = depths-onto (components_view f.before) (enclosed (token_view f.head) (around open_brackets l)) in
     omega (arith, inside, bracket, front)
 
 -- one bracket more than the limit allows is open
-pub depths-limit : (n : Nesting) (t : model.Token) (rest : List model.Token) → is_some (opened_by t.kind) ≡ true → max_nesting ≤ length n.frames
+pub depths-limit : (n : Nesting) (t : model.Token) (rest : List model.Token) → is_some (opened_by t.kind) ≡ true → max_nesting ≤ length n.open_brackets
     → max_nesting < depths (with_rest n (t ∷ rest))
 depths-limit n t rest o h =
-    let heads : List model.Token = heads_of n.frames in
+    let heads : List model.Token = heads_of n.open_brackets in
     let bracket = depths-enclosed t (levels_of (t ∷ heads) rest) in
     let front = depths-onto (components_view n.contents) (enclosed t (levels_of (t ∷ heads) rest)) in
-    let outside = depths-around n.frames (onto (components_view n.contents) (enclosed t (levels_of (t ∷ heads) rest))) in
+    let outside = depths-around n.open_brackets (onto (components_view n.contents) (enclosed t (levels_of (t ∷ heads) rest))) in
     rw (levels-opening heads t rest o) (omega (arith, h, bracket, front, outside))
 
-within-more : (outside : ℕ) (frames : List Frame) (f : Frame) → AreWithin outside frames → outside + length frames + depths (components_view f.before) ≤ max_nesting → AreWithin outside (frames ++ f ∷ [])
+within-more : (outside : ℕ) (open_brackets : List OpenBracket) (f : OpenBracket) → AreWithin outside open_brackets → outside + length open_brackets + depths (components_view f.before) ≤ max_nesting → AreWithin outside (open_brackets ++ f ∷ [])
 within-more outside [] f w h = (omega (arith, h), tt)
-within-more outside (e ∷ frames) f w h = (w.0, within-more (suc outside) frames f w.1 (omega (arith, h)))
+within-more outside (e ∷ open_brackets) f w h = (w.0, within-more (suc outside) open_brackets f w.1 (omega (arith, h)))
 
-within-less : (outside : ℕ) (frames : List Frame) (f : Frame) → AreWithin outside (frames ++ f ∷ []) → AreWithin outside frames × (outside + length frames + depths (components_view f.before) ≤ max_nesting)
+within-less : (outside : ℕ) (open_brackets : List OpenBracket) (f : OpenBracket) → AreWithin outside (open_brackets ++ f ∷ []) → AreWithin outside open_brackets × (outside + length open_brackets + depths (components_view f.before) ≤ max_nesting)
 within-less outside [] f w = (tt, omega (arith, w.0))
-within-less outside (e ∷ frames) f w =
-    let less = within-less (suc outside) frames f w.1 in
+within-less outside (e ∷ open_brackets) f w =
+    let less = within-less (suc outside) open_brackets f w.1 in
     ((w.0, less.0), omega (arith, less.1))
 
-pub within-start : (n : Nesting) → n.frames ≡ [] → n.contents ≡ [] → IsWithin n
-within-start n f c = record { frames = rw f tt; contents = rw (f, c) (omega arith) }
+pub within-start : (n : Nesting) → n.open_brackets ≡ [] → n.contents ≡ [] → IsWithin n
+within-start n f c = record { open_brackets = rw f tt; contents = rw (f, c) (omega arith) }
 
-pub within-alone : (before after : Nesting) (t : model.Token) → after.frames ≡ before.frames → components_view after.contents ≡ followed (components_view before.contents) (component (one t) no_components)
+pub within-alone : (before after : Nesting) (t : model.Token) → after.open_brackets ≡ before.open_brackets → components_view after.contents ≡ followed (components_view before.contents) (component (one t) no_components)
     → IsWithin before → IsWithin after
 within-alone before after t f is w =
     let deep : depths (followed (components_view before.contents) (component (one t) no_components)) ≡ max (depths (components_view before.contents)) (depths (component (one t) no_components)) =
     depths-followed (components_view before.contents) (component (one t) no_components) in
-    record { frames = rw f w.frames; contents = rw (f, is) (omega (arith, deep, w.contents)) }
+    record { open_brackets = rw f w.open_brackets; contents = rw (f, is) (omega (arith, deep, w.contents)) }
 
-pub within-opening : (before after : Nesting) (frame : Frame) → after.frames ≡ before.frames ++ frame ∷ [] → frame.before ≡ before.contents → after.contents ≡ [] → length before.frames < max_nesting
+pub within-opening : (before after : Nesting) (open_bracket : OpenBracket) → after.open_brackets ≡ before.open_brackets ++ open_bracket ∷ [] → open_bracket.before ≡ before.contents → after.contents ≡ [] → length before.open_brackets < max_nesting
     → IsWithin before → IsWithin after
-within-opening before after frame f b c h w =
-    let all : length (before.frames ++ frame ∷ []) ≡ length before.frames + 1 = length-append before.frames (frame ∷ []) in
+within-opening before after open_bracket f b c h w =
+    let all : length (before.open_brackets ++ open_bracket ∷ []) ≡ length before.open_brackets + 1 = length-append before.open_brackets (open_bracket ∷ []) in
     record {
-      frames = rw f (within-more 0 before.frames frame w.frames (rw b (omega (arith, w.contents))));
+      open_brackets = rw f (within-more 0 before.open_brackets open_bracket w.open_brackets (rw b (omega (arith, w.contents))));
       contents = rw (f, c) (omega (arith, all, h));
     }
 
 pub within-ends : (before after : Nesting) (close : Option Token) → Ends before close after → IsWithin before → IsWithin after
 within-ends before after close ends w =
-    let frame : Frame = ends.frame in
-    let all : length before.frames ≡ length after.frames + 1 = ap length ends.frames ∙ length-append after.frames (frame ∷ []) in
-    let less = within-less 0 after.frames frame (subst (AreWithin 0) ends.frames w.frames) in
-    let bracket = bracketed (token_view frame.head) (components_view before.contents) (option_map token_view close) in
-    let deep : depth bracket ≡ suc (depths (components_view before.contents)) = depth-bracketed (token_view frame.head) (components_view before.contents) (option_map token_view close) in
-    let joined : depths (followed (components_view frame.before) (component bracket no_components)) ≡ max (depths (components_view frame.before)) (depths (component bracket no_components)) =
-    depths-followed (components_view frame.before) (component bracket no_components) in
-    record { frames = less.0; contents = rw ends.contents (omega (arith, joined, deep, all, less.1, w.contents)) }
+    let open_bracket : OpenBracket = ends.open_bracket in
+    let all : length before.open_brackets ≡ length after.open_brackets + 1 = ap length ends.open_brackets ∙ length-append after.open_brackets (open_bracket ∷ []) in
+    let less = within-less 0 after.open_brackets open_bracket (subst (AreWithin 0) ends.open_brackets w.open_brackets) in
+    let bracket = bracketed (token_view open_bracket.head) (components_view before.contents) (option_map token_view close) in
+    let deep : depth bracket ≡ suc (depths (components_view before.contents)) = depth-bracketed (token_view open_bracket.head) (components_view before.contents) (option_map token_view close) in
+    let joined : depths (followed (components_view open_bracket.before) (component bracket no_components)) ≡ max (depths (components_view open_bracket.before)) (depths (component bracket no_components)) =
+    depths-followed (components_view open_bracket.before) (component bracket no_components) in
+    record { open_brackets = less.0; contents = rw ends.contents (omega (arith, joined, deep, all, less.1, w.contents)) }
 
-pub within-none : (n : Nesting) → n.frames ≡ [] → IsWithin n → depths (components_view n.contents) ≤ max_nesting
+pub within-none : (n : Nesting) → n.open_brackets ≡ [] → IsWithin n → depths (components_view n.contents) ≤ max_nesting
 within-none n f w =
-    let none : length n.frames ≡ 0 = ap length f in
+    let none : length n.open_brackets ≡ 0 = ap length f in
     omega (arith, none, w.contents)
 
 -- ---- what is answered

@@ -6,41 +6,41 @@ use Rattle.css_model.specs.Nesting.{bracketed, Levels, contents_of, onto, follow
 use Rattle.css_tokens.specs.declared.component.Component.{Component}
 use Rattle.css_tokens.specs.declared.fault.TokenFault.{TokenFault}
 use Rattle.css_tokens.specs.declared.fault.TokenFault.TheVariants as fault
-use Rattle.css_tokens.specs.declared.nesting.Frame.{Frame}
+use Rattle.css_tokens.specs.declared.nesting.OpenBracket.{OpenBracket}
 use Rattle.css_tokens.specs.declared.nesting.Nesting.{Nesting}
 use Rattle.css_tokens.specs.declared.token.Token.{Token}
 use Rattle.css_tokens.specs.Views.{token_view}
 use Rattle.css_tokens.specs.Nesting.{components_view}
 
 -- the tokens that opened these brackets, the last one first
-abbrev pub heads_of : List Frame → List model.Token
-heads_of frames = fold (λ heads (f : Frame). token_view f.head ∷ heads) [] frames
+abbrev pub heads_of : List OpenBracket → List model.Token
+heads_of open_brackets = fold (λ heads (f : OpenBracket). token_view f.head ∷ heads) [] open_brackets
 
 -- what stands before and in open brackets, where the innermost one goes on with these levels
-abbrev pub around : List Frame → Levels → Levels
+abbrev pub around : List OpenBracket → Levels → Levels
 around [] l = l
-around (f ∷ frames) l = onto (components_view f.before) (enclosed (token_view f.head) (around frames l))
+around (f ∷ open_brackets) l = onto (components_view f.before) (enclosed (token_view f.head) (around open_brackets l))
 
 -- all components, where these tokens follow
 abbrev pub with_rest : Nesting → List model.Token → Components
-with_rest n rest = contents_of (around n.frames (onto (components_view n.contents) (levels_of (heads_of n.frames) rest)))
+with_rest n rest = contents_of (around n.open_brackets (onto (components_view n.contents) (levels_of (heads_of n.open_brackets) rest)))
 
 -- what stands before each of these brackets is within the limit, where so many brackets are open around them
-abbrev pub AreWithin : ℕ → List Frame → Type 0
+abbrev pub AreWithin : ℕ → List OpenBracket → Type 0
 AreWithin outside [] = Unit {0}
-AreWithin outside (f ∷ frames) = (outside + depths (components_view f.before) ≤ max_nesting) × AreWithin (suc outside) frames
+AreWithin outside (f ∷ open_brackets) = (outside + depths (components_view f.before) ≤ max_nesting) × AreWithin (suc outside) open_brackets
 
 -- brackets nest within the limit so far
 pub record IsWithin (n : Nesting) : Type 0 where
-  pub frames : AreWithin 0 n.frames
-  pub contents : length n.frames + depths (components_view n.contents) ≤ max_nesting
+  pub open_brackets : AreWithin 0 n.open_brackets
+  pub contents : length n.open_brackets + depths (components_view n.contents) ≤ max_nesting
 
 -- the innermost bracket ends
 pub record Ends (before : Nesting) (close : Option Token) (after : Nesting) : Type 0 where
-  pub frame : Frame
-  pub frames : before.frames ≡ after.frames ++ frame ∷ []
+  pub open_bracket : OpenBracket
+  pub open_brackets : before.open_brackets ≡ after.open_brackets ++ open_bracket ∷ []
   pub contents : components_view after.contents
-      ≡ followed (components_view frame.before) (component (bracketed (token_view frame.head) (components_view before.contents) (option_map token_view close)) no_components)
+      ≡ followed (components_view open_bracket.before) (component (bracketed (token_view open_bracket.head) (components_view before.contents) (option_map token_view close)) no_components)
 
 -- a token was taken up: brackets are still within the limit, and the components are those of what followed before
 pub record Takes (before : Nesting) (t : model.Token) (after : Nesting) : Type 0 where

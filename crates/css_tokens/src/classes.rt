@@ -6,13 +6,21 @@ ghost use Rattle.css_tokens.specs.Tests.{test_of};
 /// A class of characters, of which runs are read.
 #[derive(Clone, Copy, Debug, PartialEq, Eq)]
 pub enum Class {
+    /// A digit: 0 to 9.
     Digit,
+    /// A hex digit: a digit, A to F or a to f.
     HexDigit,
-    White,
+    /// Whitespace: a newline, a tab or a space.
+    Whitespace,
+    /// `+` or `-`.
     Sign,
+    /// `-`.
     Hyphen,
+    /// `"` or `'`.
     Quote,
+    /// `(`.
     OpenRound,
+    /// `)`.
     CloseRound,
 }
 
@@ -24,7 +32,7 @@ impl Class {
         match self {
             Class::Digit => is_digit(c),
             Class::HexDigit => is_hex_digit(c),
-            Class::White => is_white(c),
+            Class::Whitespace => is_whitespace(c),
             Class::Sign => is_sign(c),
             Class::Hyphen => c == '-',
             Class::Quote => is_quote(c),
@@ -38,35 +46,35 @@ impl Class {
 pub fn is_digit(c: char) -> bool
     ensures { result ≡ model.is_digit c }
 {
-    '0' <= c && c <= '9'
+    c.is_ascii_digit()
 }
 
 /// A hex digit: a digit, A to F or a to f.
 pub fn is_hex_digit(c: char) -> bool
     ensures { result ≡ model.is_hex_digit c }
 {
-    is_digit(c) || ('A' <= c && c <= 'F') || ('a' <= c && c <= 'f')
+    c.is_ascii_hexdigit()
 }
 
 /// A letter: A to Z or a to z.
 pub fn is_letter(c: char) -> bool
     ensures { result ≡ model.is_letter c }
 {
-    ('A' <= c && c <= 'Z') || ('a' <= c && c <= 'z')
+    c.is_ascii_alphabetic()
 }
 
 /// An ident-start code point: a letter, what is not ASCII, or `_`.
-pub fn is_name_start(c: char) -> bool
-    ensures { result ≡ model.is_name_start c }
+pub fn is_ident_start(c: char) -> bool
+    ensures { result ≡ model.is_ident_start c }
 {
     is_letter(c) || '\u{80}' <= c || c == '_'
 }
 
 /// An ident code point: an ident-start code point, a digit or `-`.
-pub fn is_name_char(c: char) -> bool
-    ensures { result ≡ model.is_name_char c }
+pub fn is_ident_char(c: char) -> bool
+    ensures { result ≡ model.is_ident_char c }
 {
-    is_name_start(c) || is_digit(c) || c == '-'
+    is_ident_start(c) || is_digit(c) || c == '-'
 }
 
 /// A non-printable code point.
@@ -76,9 +84,9 @@ pub fn is_non_printable(c: char) -> bool
     c <= '\u{8}' || c == '\u{b}' || ('\u{e}' <= c && c <= '\u{1f}') || c == '\u{7f}'
 }
 
-/// White space: a newline, a tab or a space.
-pub fn is_white(c: char) -> bool
-    ensures { result ≡ model.is_white c }
+/// Whitespace: a newline, a tab or a space.
+pub fn is_whitespace(c: char) -> bool
+    ensures { result ≡ model.is_whitespace c }
 {
     c == '\n' || c == '\t' || c == ' '
 }

@@ -7,8 +7,8 @@ use super::piece::Piece;
 use super::runs::behind;
 
 /// The comment of which this stands behind `/*`.
-pub fn comment_piece(cs: &[char]) -> Piece
-    ensures { IsFound result (model.comment_piece cs.now) }
+pub fn consume_comment(cs: &[char]) -> Piece
+    ensures { IsFound result (model.consume_comment cs.now) }
 {
     let inside = inside_length(cs);
     let end = if inside < cs.len() { 2 } else { 0 };
@@ -31,8 +31,5 @@ fn inside_length(cs: &[char]) -> usize
 fn begins_end(cs: &[char]) -> bool
     ensures { result ≡ model.has_front (codes "*/") cs.now }
 {
-    match cs {
-        ['*', '/', ..] => true,
-        _ => false,
-    }
+    matches!(cs, ['*', '/', ..])
 }

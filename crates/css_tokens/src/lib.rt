@@ -4,8 +4,12 @@
 mod classes;
 mod comments;
 mod component;
+mod copies;
 mod decimals;
+mod decoding;
+mod escapes;
 mod fault;
+mod first_piece;
 mod magnitudes;
 mod names;
 mod nesting;
@@ -13,13 +17,9 @@ mod nesting;
 mod nesting_tests;
 mod numbers;
 mod numerals;
-mod parts;
 mod piece;
-mod pieces;
 mod preprocessing;
-mod reading;
 mod runs;
-mod spans;
 mod strings;
 #[cfg(test)]
 mod tests;

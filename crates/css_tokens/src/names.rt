@@ -7,28 +7,28 @@ ghost use Rattle.css_model.specs.Pieces as model;
 ghost use Rattle.css_tokens.specs.Found.{IsFound};
 
 use super::classes::Class;
-use super::parts::Place;
+use super::decoding::decode;
+use super::escapes::Place;
 use super::piece::Piece;
 use super::runs::{begins, behind, run};
-use super::spans::read_span;
 use super::token::TokenKind;
-use super::urls::url_piece;
+use super::urls::consume_url;
 use port_core::{NoMemory, Text};
 use std::alloc::Global;
 
 /// The identifier, function or url whose name stands in front.
-pub fn name_piece(alloc: Global, cs: &[char]) -> Result<Piece, NoMemory>
-    ensures { IfOk result (λ p. IsFound p (model.name_piece (parts_in in_name cs.now) (behind_parts (parts_in in_name cs.now) cs.now))) }
+pub fn consume_ident_like(alloc: Global, cs: &[char]) -> Result<Piece, NoMemory>
+    ensures { IfOk result (λ p. IsFound p (model.consume_ident_like (parts_in in_name cs.now) (behind_parts (parts_in in_name cs.now) cs.now))) }
 {
-    let span = read_span(alloc, Place::Name, cs)?;
-    if !begins(Class::OpenRound, behind(cs, span.count)) {
-        return Ok(Piece::token(TokenKind::Ident(span.meaning), span.count));
+    let decoded = decode(alloc, Place::Name, cs)?;
+    if !begins(Class::OpenRound, behind(cs, decoded.count)) {
+        return Ok(Piece::token(TokenKind::Ident(decoded.meaning), decoded.count));
     }
-    let head = span.count + 1;
-    if begins_url(&span.meaning, behind(cs, head)) {
-        url_piece(alloc, head, cs)
+    let head = decoded.count + 1;
+    if begins_url(&decoded.meaning, behind(cs, head)) {
+        consume_url(alloc, head, cs)
     } else {
-        Ok(Piece::token(TokenKind::Function(span.meaning), head))
+        Ok(Piece::token(TokenKind::Function(decoded.meaning), head))
     }
 }
 
@@ -46,10 +46,10 @@ fn is_url_name(name: &Text) -> bool
     name.as_str().eq_ignore_ascii_case("url")
 }
 
-/// Whether a quote follows, with or without white space between.
+/// Whether a quote follows, with or without whitespace between.
 fn quote_follows(cs: &[char]) -> bool
     ensures { result ≡ spelling.quote_follows cs.now }
 {
-    let (_, rest) = run(Class::White, cs);
+    let (_, rest) = run(Class::Whitespace, cs);
     begins(Class::Quote, rest)
 }

@@ -22,7 +22,7 @@ const MAX_NESTING: usize = 64;
 
 /// A bracket that is open: what stands before it in the bracket around it, and the token that opened it.
 #[derive(Drop)]
-struct Frame {
+struct OpenBracket {
     before: Components,
     head: Token,
 }
@@ -31,7 +31,7 @@ struct Frame {
 #[derive(Drop)]
 struct Nesting {
     /// The brackets that are open, the innermost last.
-    frames: Seq<Frame>,
+    open_brackets: Seq<OpenBracket>,
     /// What the innermost one holds so far.
     contents: Components,
 }
@@ -71,17 +71,17 @@ fn bracketed(head: Token, contents: Components, close: Option<Token>) -> Compone
 impl Nesting {
     /// The innermost bracket that is open.
     fn innermost(&self) -> Option<Bracket>
-        ensures { option_map bracket_view result ≡ innermost (heads_of self.now.frames) }
+        ensures { option_map bracket_view result ≡ innermost (heads_of self.now.open_brackets) }
     {
-        match self.frames.as_slice() {
-            [.., frame] => opened_by(&frame.head.kind),
+        match self.open_brackets.as_slice() {
+            [.., open_bracket] => opened_by(&open_bracket.head.kind),
             [] => None,
         }
     }
 
     /// A component follows.
     fn add(&mut self, component: Component) -> Result<(), NoMemory>
-        ensures frames { self.new.frames ≡ self.old.frames }
+        ensures open_brackets { self.new.open_brackets ≡ self.old.open_brackets }
         ensures contents { IfOk result (λ _. components_view self.new.contents ≡ followed (components_view self.old.contents) (defined.component (component_view component) defined.no_components)) }
     {
         self.contents.push(component)?;
@@ -90,12 +90,12 @@ impl Nesting {
 
     /// The innermost bracket ends.
     fn end(&mut self, close: Option<Token>) -> Result<(), NoMemory>
-        requires open { 0 < length self.old.frames }
+        requires open { 0 < length self.old.open_brackets }
         ensures { IfOk result (λ _. Ends self.old close self.new) }
     {
-        match self.frames.pop() {
+        match self.open_brackets.pop() {
             None => Ok(()),
-            Some(Frame { before, head }) => {
+            Some(OpenBracket { before, head }) => {
                 let contents = mem::replace(&mut self.contents, before);
                 self.add(bracketed(head, contents, close))?;
                 Ok(())
@@ -108,18 +108,18 @@ impl Nesting {
         requires opens { is_some (defined.opened_by (token_view head).kind) ≡ true }
         ensures { Taken result self.old (token_view head) self.new }
     {
-        if self.frames.len() >= MAX_NESTING {
+        if self.open_brackets.len() >= MAX_NESTING {
             return Err(TokenFault::TooDeep);
         }
         let before = mem::replace(&mut self.contents, Seq::new(alloc));
-        self.frames.push(Frame { before, head })?;
+        self.open_brackets.push(OpenBracket { before, head })?;
         Ok(())
     }
 
     /// A token follows that closes the innermost bracket.
     fn take_closing(&mut self, close: Token) -> Result<(), TokenFault>
         requires opens { is_some (defined.opened_by (token_view close).kind) ≡ false }
-        requires closes { defined.closes (innermost (heads_of self.old.frames)) (token_view close).kind ≡ true }
+        requires closes { defined.closes (innermost (heads_of self.old.open_brackets)) (token_view close).kind ≡ true }
         ensures { Taken result self.old (token_view close) self.new }
     {
         self.end(Some(close))?;
@@ -129,7 +129,7 @@ impl Nesting {
     /// A token follows that is a component.
     fn take_alone(&mut self, token: Token) -> Result<(), TokenFault>
         requires opens { is_some (defined.opened_by (token_view token).kind) ≡ false }
-        requires closes { defined.closes (innermost (heads_of self.old.frames)) (token_view token).kind ≡ false }
+        requires closes { defined.closes (innermost (heads_of self.old.open_brackets)) (token_view token).kind ≡ false }
         ensures { Taken result self.old (token_view token) self.new }
     {
         self.add(Component::One(token))?;
@@ -155,7 +155,7 @@ impl Nesting {
         requires within { IsWithin self }
         ensures { IfOk result (λ cs. (components_view cs ≡ with_rest self []) × (depths (components_view cs) ≤ max_nesting)) }
     {
-        while !self.frames.is_empty() {
+        while !self.open_brackets.is_empty() {
             self.end(None)?;
         }
         Ok(self.contents)
@@ -166,7 +166,7 @@ fn nested(alloc: Global, tokens: &[Token]) -> Result<Components, TokenFault>
     ensures { Nests result (tokens_view tokens.now) }
 {
     let mut nesting = Nesting {
-        frames: Seq::new(alloc),
+        open_brackets: Seq::new(alloc),
         contents: Seq::new(alloc),
     };
     for token in tokens {

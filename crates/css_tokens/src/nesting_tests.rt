@@ -87,6 +87,7 @@ fn brackets_nest_up_to_a_limit(rt: HostRuntime) -> Result<(), Fail> {
         let answer = components(rt.alloc(), &tokenize(rt.alloc(), text.as_str())?);
         let refused = matches!(answer, Err(TokenFault::TooDeep));
         assert_eq!(rt; refused, is_too_deep, "at {text}");
+        assert_eq!(rt; answer.is_ok(), !is_too_deep, "at {text}");
     }
     Ok(())
 }

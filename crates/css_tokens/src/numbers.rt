@@ -1,29 +1,29 @@
 //! Numbers, percentages and dimensions (CSS Syntax 3, section 4.3.3).
 ghost use Rattle.std.specs.Prelude.{◌≡◌, ◌≤◌, length, drop, codes, true, IfOk};
 ghost use Rattle.css_model.specs.Numerals as written;
-ghost use Rattle.css_model.specs.Fronts.{begins_number, numeral_in};
+ghost use Rattle.css_model.specs.Fronts.{would_start_number, numeral_in};
 ghost use Rattle.css_model.specs.Pieces as model;
 ghost use Rattle.css_tokens.specs.Views.{number_view};
 ghost use Rattle.css_tokens.specs.Found.{IsFound};
 
+use super::decoding::{decode, would_start_ident};
+use super::escapes::Place;
 use super::numerals::read_numeral;
-use super::parts::Place;
 use super::piece::Piece;
 use super::runs::behind;
-use super::spans::{begins_identifier, read_span};
 use super::token::{Number, TokenKind};
 use port_core::NoMemory;
 use std::alloc::Global;
 
 /// The number, percentage or dimension in front.
-pub fn number_piece(alloc: Global, cs: &[char]) -> Result<Piece, NoMemory>
-    requires { begins_number cs.now ≡ true }
-    ensures { IfOk result (λ p. IsFound p (model.behind_number (numeral_in cs.now) (drop (length (written.numeral_text (numeral_in cs.now))) cs.now))) }
+pub fn consume_numeric(alloc: Global, cs: &[char]) -> Result<Piece, NoMemory>
+    requires { would_start_number cs.now ≡ true }
+    ensures { IfOk result (λ p. IsFound p (model.consume_numeric (numeral_in cs.now) (drop (length (written.numeral_text (numeral_in cs.now))) cs.now))) }
 {
     let (number, count) = read_number(cs);
     let rest = behind(cs, count);
-    if begins_identifier(rest) {
-        let unit = read_span(alloc, Place::Name, rest)?;
+    if would_start_ident(rest) {
+        let unit = decode(alloc, Place::Name, rest)?;
         return Ok(Piece::token(
             TokenKind::Dimension(number, unit.meaning),
             count + unit.count,
@@ -39,15 +39,12 @@ pub fn number_piece(alloc: Global, cs: &[char]) -> Result<Piece, NoMemory>
 fn begins_percent(cs: &[char]) -> bool
     ensures { result ≡ model.has_front (codes "%") cs.now }
 {
-    match cs {
-        ['%', ..] => true,
-        _ => false,
-    }
+    matches!(cs, ['%', ..])
 }
 
 /// The number in front, and how many characters it has.
 fn read_number(cs: &[char]) -> (Number, usize)
-    requires { begins_number cs.now ≡ true }
+    requires { would_start_number cs.now ≡ true }
     ensures number { number_view result.0 ≡ written.number_of (numeral_in cs.now) }
     ensures count { result.1 ≡ length (written.numeral_text (numeral_in cs.now)) }
     ensures within { result.1 ≤ length cs.now }

@@ -15,11 +15,17 @@ use units64::Fixed6;
 /// What is written of a number; each part may be empty.
 #[derive(Clone, Copy, Debug)]
 pub struct Numeral<'a> {
+    /// `+` or `-`.
     pub sign: &'a [char],
+    /// The digits before the point.
     pub whole: &'a [char],
+    /// The digits behind the point, without it.
     pub fraction: &'a [char],
+    /// The `e` or `E` before an exponent.
     pub mark: &'a [char],
+    /// The `+` or `-` of the exponent.
     pub exponent_sign: &'a [char],
+    /// The digits of the exponent.
     pub exponent: &'a [char],
 }
 
@@ -34,8 +40,8 @@ fn begins_unsigned(cs: &[char]) -> bool
 }
 
 /// A number begins here.
-pub fn begins_number(cs: &[char]) -> bool
-    ensures { result ≡ model.begins_number cs.now }
+pub fn would_start_number(cs: &[char]) -> bool
+    ensures { result ≡ model.would_start_number cs.now }
 {
     match cs {
         [] => false,

@@ -16,8 +16,8 @@ fn spell_kind(alloc: Global, kind: &TokenKind) -> Result<String, AllocError> {
         TokenKind::Ident(name) => format!(in alloc; "ident {}", name.as_str()),
         TokenKind::Function(name) => format!(in alloc; "function {}", name.as_str()),
         TokenKind::AtKeyword(name) => format!(in alloc; "at {}", name.as_str()),
-        TokenKind::Hash(name, true) => format!(in alloc; "id {}", name.as_str()),
-        TokenKind::Hash(name, false) => format!(in alloc; "hash {}", name.as_str()),
+        TokenKind::Hash { name, is_id: true } => format!(in alloc; "id {}", name.as_str()),
+        TokenKind::Hash { name, is_id: false } => format!(in alloc; "hash {}", name.as_str()),
         TokenKind::String(value) => format!(in alloc; "string {}", value.as_str()),
         TokenKind::BadString => String::from_str(alloc, "bad string"),
         TokenKind::Url(value) => format!(in alloc; "url {}", value.as_str()),
@@ -28,7 +28,7 @@ fn spell_kind(alloc: Global, kind: &TokenKind) -> Result<String, AllocError> {
         TokenKind::Dimension(n, unit) => {
             format!(in alloc; "dimension {} {}", unit.as_str(), spell_number(alloc, *n)?)
         }
-        TokenKind::WhiteSpace => String::from_str(alloc, "white"),
+        TokenKind::Whitespace => String::from_str(alloc, "white"),
         TokenKind::Cdo => String::from_str(alloc, "cdo"),
         TokenKind::Cdc => String::from_str(alloc, "cdc"),
         TokenKind::Colon => String::from_str(alloc, "colon"),
@@ -92,6 +92,8 @@ fn escapes(rt: HostRuntime) -> Result<(), Fail> {
             ("-\\30", "ident -0 @0-4"),
             ("-\\\n", "delim - @0-1 | delim \\ @1-2 | white @2-3"),
             ("\\75rl(a)", "url a @0-8"),
+            ("-\\", "ident -\u{fffd} @0-2"),
+            ("#\\", "id \u{fffd} @0-2"),
         ],
     )
 }
@@ -104,6 +106,7 @@ fn names(rt: HostRuntime) -> Result<(), Fail> {
         &[
             ("", ""),
             ("a_\u{e9}-1", "ident a_\u{e9}-1 @0-5"),
+            ("\u{7f}\u{80}", "delim \u{7f} @0-1 | ident \u{80} @1-2"),
             ("--", "ident -- @0-2"),
             ("--x", "ident --x @0-3"),
             ("-->x", "cdc @0-3 | ident x @3-4"),
@@ -137,6 +140,7 @@ fn numbers(rt: HostRuntime) -> Result<(), Fail> {
             ("1e", "dimension e 1000000 whole @0-2"),
             ("1e+", "dimension e 1000000 whole @0-2 | delim + @2-3"),
             ("1e+2", "number 100000000 @0-4"),
+            ("1e-x", "dimension e-x 1000000 whole @0-4"),
             ("1e3e4", "dimension e4 1000000000 @0-5"),
             ("1.", "number 1000000 whole @0-1 | delim . @1-2"),
             (".5.5", "number 500000 @0-2 | number 500000 @2-4"),
@@ -145,6 +149,7 @@ fn numbers(rt: HostRuntime) -> Result<(), Fail> {
             ("2-", "number 2000000 whole @0-1 | delim - @1-2"),
             ("u+1", "ident u @0-1 | number 1000000 whole signed @1-3"),
             ("+-1", "delim + @0-1 | number -1000000 whole signed @1-3"),
+            ("+.", "delim + @0-1 | delim . @1-2"),
             ("-0.0000019", "number -1 signed @0-10"),
             ("5e-7", "number 0 @0-4"),
             ("50e-7", "number 5 @0-5"),
@@ -205,6 +210,7 @@ fn strings_and_urls(rt: HostRuntime) -> Result<(), Fail> {
             ("url(a\"\\)b)c", "bad url @0-10 | ident c @10-11"),
             ("url(a\\\n)", "bad url @0-8"),
             ("url(\u{1}", "bad url @0-5"),
+            ("url(\u{7f})", "bad url @0-6"),
         ],
     )
 }

@@ -30,45 +30,50 @@ pub struct Number {
 /// Names, strings and urls are meant after escapes, without quotes, `(`, `@` and `#`.
 #[derive(Debug, Drop)]
 pub enum TokenKind {
-    /// An identifier.
+    /// `<ident-token>`: an identifier.
     Ident(Text),
-    /// A name and `(`.
+    /// `<function-token>`: a name and `(`.
     Function(Text),
-    /// `@` and a name.
+    /// `<at-keyword-token>`: `@` and a name.
     AtKeyword(Text),
-    /// `#` and a name, and whether that is an identifier: the hash is then an id.
-    Hash(Text, bool),
-    /// A string in quotes, without them.
+    /// `<hash-token>`: `#` and a name.
+    Hash {
+        /// The name.
+        name: Text,
+        /// Whether the name is an identifier: the type flag is then "id", and else "unrestricted".
+        is_id: bool,
+    },
+    /// `<string-token>`: a string in quotes, without them.
     String(Text),
-    /// A string that a newline ends.
+    /// `<bad-string-token>`: a string that a newline ends.
     BadString,
-    /// `url(`, a url without quotes, and `)`.
+    /// `<url-token>`: `url(`, a url without quotes, and `)`.
     Url(Text),
-    /// What is left of a url in bad form.
+    /// `<bad-url-token>`: what is left of a url in bad form.
     BadUrl,
-    /// Any other character.
+    /// `<delim-token>`: any other character.
     Delim(char),
-    /// A number.
+    /// `<number-token>`: a number.
     Number(Number),
-    /// A number and `%`.
+    /// `<percentage-token>`: a number and `%`.
     Percentage(Number),
-    /// A number and a unit, which is an identifier.
+    /// `<dimension-token>`: a number and a unit, which is an identifier.
     Dimension(Number, Text),
-    /// A run of white space.
-    WhiteSpace,
-    /// `<!--`.
+    /// `<whitespace-token>`: a run of whitespace.
+    Whitespace,
+    /// `<CDO-token>`: `<!--`.
     Cdo,
-    /// `-->`.
+    /// `<CDC-token>`: `-->`.
     Cdc,
-    /// `:`.
+    /// `<colon-token>`: `:`.
     Colon,
-    /// `;`.
+    /// `<semicolon-token>`: `;`.
     Semicolon,
-    /// `,`.
+    /// `<comma-token>`: `,`.
     Comma,
-    /// A bracket that opens.
+    /// `<(-token>`, `<[-token>` or `<{-token>`: a bracket that opens.
     Opening(Bracket),
-    /// A bracket that closes.
+    /// `<)-token>`, `<]-token>` or `<}-token>`: a bracket that closes.
     Closing(Bracket),
 }
 

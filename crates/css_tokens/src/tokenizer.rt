@@ -6,8 +6,8 @@ ghost use Rattle.css_model.specs.Pieces.{pieces};
 ghost use Rattle.css_tokens.specs.Views.{kind_view, tokens_view};
 ghost use Rattle.css_tokens.specs.Found.{IsFront, token_of, tokens_of_class};
 
+use super::first_piece::first_piece;
 use super::piece::Piece;
-use super::pieces::first_piece;
 use super::preprocessing::preprocess;
 use super::runs::behind;
 use super::token::{Token, TokenKind, Tokens};

@@ -11,5 +11,5 @@ loop-self-preserved c = record {
 
 pub returns : goal.returns
 returns c =
-    let none : c.loop-self.self.frames ≡ [] = c.is_empty.ensures.0 c.loop-self-test.false in
+    let none : c.loop-self.self.open_brackets ≡ [] = c.is_empty.ensures.0 c.loop-self-test.false in
     (sym (rest-none c.loop-self.self none) ∙ c.loop-self.invariant.same, within-none c.loop-self.self none c.loop-self.invariant.within)

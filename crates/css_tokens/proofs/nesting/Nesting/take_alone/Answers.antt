@@ -11,6 +11,6 @@ pub returns : goal.returns
 returns c =
     let contents = c.in_ok-add.ensures.contents ∙ ap (λ a. followed (components_view c.args.self.now.contents) (component a no_components)) (view-one c.args.token) in
     record {
-      within = within-alone c.args.self.now c.add.new.self (token_view c.args.token) c.add.ensures.frames contents;
-      rest = λ rest. rest-alone c.args.self.now c.add.new.self (token_view c.args.token) rest c.requires.opens c.requires.closes c.add.ensures.frames contents;
+      within = within-alone c.args.self.now c.add.new.self (token_view c.args.token) c.add.ensures.open_brackets contents;
+      rest = λ rest. rest-alone c.args.self.now c.add.new.self (token_view c.args.token) rest c.requires.opens c.requires.closes c.add.ensures.open_brackets contents;
     }

@@ -15,7 +15,10 @@ impl TokenKind {
             TokenKind::Ident(name) => TokenKind::Ident(copy_text(alloc, name)?),
             TokenKind::Function(name) => TokenKind::Function(copy_text(alloc, name)?),
             TokenKind::AtKeyword(name) => TokenKind::AtKeyword(copy_text(alloc, name)?),
-            TokenKind::Hash(name, is_id) => TokenKind::Hash(copy_text(alloc, name)?, *is_id),
+            TokenKind::Hash { name, is_id } => TokenKind::Hash {
+                name: copy_text(alloc, name)?,
+                is_id: *is_id,
+            },
             TokenKind::String(value) => TokenKind::String(copy_text(alloc, value)?),
             TokenKind::BadString => TokenKind::BadString,
             TokenKind::Url(value) => TokenKind::Url(copy_text(alloc, value)?),
@@ -24,7 +27,7 @@ impl TokenKind {
             TokenKind::Number(n) => TokenKind::Number(*n),
             TokenKind::Percentage(n) => TokenKind::Percentage(*n),
             TokenKind::Dimension(n, unit) => TokenKind::Dimension(*n, copy_text(alloc, unit)?),
-            TokenKind::WhiteSpace => TokenKind::WhiteSpace,
+            TokenKind::Whitespace => TokenKind::Whitespace,
             TokenKind::Cdo => TokenKind::Cdo,
             TokenKind::Cdc => TokenKind::Cdc,
             TokenKind::Colon => TokenKind::Colon,
@@ -69,7 +72,7 @@ impl Token {
         ensures { result ≡ hash_is_id self.now.kind }
     {
         match &self.kind {
-            TokenKind::Hash(_, is_id) => *is_id,
+            TokenKind::Hash { is_id, .. } => *is_id,
             _ => false,
         }
     }

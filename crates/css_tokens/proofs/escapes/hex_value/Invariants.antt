@@ -1,6 +1,6 @@
 use Rattle.std.proofs.Common.{◌≡◌, ◌≤◌, min, drop}
 use Rattle.css_model.specs.Parts.{hex_value_after}
-use Rattle.css_tokens.proofs.parts.hex_value.Given as goal
+use Rattle.css_tokens.proofs.escapes.hex_value.Given as goal
 
 abbrev pub invariant-loop-c : goal.invariant-loop-c
 invariant-loop-c l = record {

@@ -1,13 +1,13 @@
 //! What names, strings and urls are made of: characters and escapes (CSS Syntax 3, sections 4.3.7 and 4.3.8).
 ghost use Rattle.std.specs.Prelude.{◌≡◌, ◌≤◌, ◌<◌, ◌^◌, length, min, take, option_to_list};
 ghost use Rattle.css_model.specs.Parts as model;
-ghost use Rattle.css_model.specs.Fronts.{hex_digits_in, code_in, escape_in, part_in};
-ghost use Rattle.css_tokens.specs.declared.parts.Part.TheVariants as part;
+ghost use Rattle.css_model.specs.Fronts.{hex_digits_in, hex_escape_in, escape_in, part_in};
+ghost use Rattle.css_tokens.specs.declared.escapes.Part.TheVariants as part;
 ghost use Rattle.css_tokens.specs.Kept.{kept, length_of, meaning_of, is_allowed, starts_name, is_hyphen_alone};
 
 use super::classes::{
-    Class, is_digit, is_hex_digit, is_name_char, is_name_start, is_non_printable, is_quote,
-    is_white,
+    Class, is_digit, is_hex_digit, is_ident_char, is_ident_start, is_non_printable, is_quote,
+    is_whitespace,
 };
 use super::runs::{behind, one, run};
 
@@ -38,11 +38,11 @@ pub enum Part {
     /// A backslash and the character that it stands for.
     Escaped(char),
     /// A backslash and a code: its character, and how many characters spell it.
-    Coded(char, usize),
+    HexEscape(char, usize),
     /// A backslash and a newline.
-    Joined,
+    EscapedNewline,
     /// A backslash that is the last character of the text.
-    CutOff,
+    EscapeAtEnd,
 }
 
 impl Part {
@@ -51,9 +51,9 @@ impl Part {
         ensures { result ≡ length_of self }
     {
         match self {
-            Part::Itself(_) | Part::CutOff => 1,
-            Part::Escaped(_) | Part::Joined => 2,
-            Part::Coded(_, count) => count,
+            Part::Itself(_) | Part::EscapeAtEnd => 1,
+            Part::Escaped(_) | Part::EscapedNewline => 2,
+            Part::HexEscape(_, count) => count,
         }
     }
 
@@ -63,8 +63,8 @@ impl Part {
     {
         match self {
             Part::Itself(c) => place.allows(c),
-            Part::Joined => place.allows_joined(),
-            Part::Escaped(_) | Part::Coded(_, _) | Part::CutOff => true,
+            Part::EscapedNewline => place.allows_escaped_newline(),
+            Part::Escaped(_) | Part::HexEscape(_, _) | Part::EscapeAtEnd => true,
         }
     }
 
@@ -73,9 +73,9 @@ impl Part {
         ensures { option_to_list result ≡ meaning_of place self }
     {
         match self {
-            Part::Itself(c) | Part::Escaped(c) | Part::Coded(c, _) => Some(c),
-            Part::Joined => None,
-            Part::CutOff => place.cut_off(),
+            Part::Itself(c) | Part::Escaped(c) | Part::HexEscape(c, _) => Some(c),
+            Part::EscapedNewline => None,
+            Part::EscapeAtEnd => place.escape_at_end(),
         }
     }
 
@@ -84,9 +84,9 @@ impl Part {
         ensures { result ≡ starts_name self }
     {
         match self {
-            Part::Itself(c) => is_name_start(c),
-            Part::Joined => false,
-            Part::Escaped(_) | Part::Coded(_, _) | Part::CutOff => true,
+            Part::Itself(c) => is_ident_start(c),
+            Part::EscapedNewline => false,
+            Part::Escaped(_) | Part::HexEscape(_, _) | Part::EscapeAtEnd => true,
         }
     }
 
@@ -107,18 +107,18 @@ impl Place {
         ensures { result ≡ is_allowed self (part.Itself c) }
     {
         match self {
-            Place::Name => is_name_char(c),
+            Place::Name => is_ident_char(c),
             Place::Quoted(quote) => c != quote && c != '\n',
             Place::Url => {
-                !is_quote(c) && c != '(' && c != ')' && !is_white(c) && !is_non_printable(c)
+                !is_quote(c) && c != '(' && c != ')' && !is_whitespace(c) && !is_non_printable(c)
             }
             Place::BadUrl => c != ')',
         }
     }
 
     /// Whether a backslash may stand before a newline here.
-    fn allows_joined(self) -> bool
-        ensures { result ≡ is_allowed self part.Joined }
+    fn allows_escaped_newline(self) -> bool
+        ensures { result ≡ is_allowed self part.EscapedNewline }
     {
         match self {
             Place::Name | Place::Url => false,
@@ -127,8 +127,8 @@ impl Place {
     }
 
     /// What a backslash at the end of the text stands for here.
-    fn cut_off(self) -> Option<char>
-        ensures { option_to_list result ≡ meaning_of self part.CutOff }
+    fn escape_at_end(self) -> Option<char>
+        ensures { option_to_list result ≡ meaning_of self part.EscapeAtEnd }
     {
         match self {
             Place::Quoted(_) => None,
@@ -153,12 +153,12 @@ fn escape_at(rest: &[char]) -> Part
     ensures { result ≡ kept (escape_in rest.now) }
 {
     match rest {
-        [] => Part::CutOff,
+        [] => Part::EscapeAtEnd,
         [c, ..] => {
             if *c == '\n' {
-                Part::Joined
+                Part::EscapedNewline
             } else if is_hex_digit(*c) {
-                code_at(rest)
+                hex_escape_at(rest)
             } else {
                 Part::Escaped(*c)
             }
@@ -166,14 +166,14 @@ fn escape_at(rest: &[char]) -> Part
     }
 }
 
-/// The code of which this stands behind the backslash: up to six hex digits, and one white space.
-fn code_at(rest: &[char]) -> Part
-    ensures { result ≡ kept (code_in rest.now) }
+/// The code of which this stands behind the backslash: up to six hex digits, and one whitespace.
+fn hex_escape_at(rest: &[char]) -> Part
+    ensures { result ≡ kept (hex_escape_in rest.now) }
 {
     let digits = hex_digits(rest);
-    let (blank, _) = one(Class::White, behind(rest, digits.len()));
+    let (blank, _) = one(Class::Whitespace, behind(rest, digits.len()));
     let c = character_of(hex_value(digits));
-    Part::Coded(c, 1 + digits.len() + blank.len())
+    Part::HexEscape(c, 1 + digits.len() + blank.len())
 }
 
 /// The hex digits in front, but no more than six.

@@ -1,7 +1,7 @@
 use Rattle.std.proofs.Common.{◌≡◌, ◌∙◌, ap, ◌*◌, ◌+◌, min, get_or, arith}
 use Rattle.css_model.specs.Parts.{hex_digit_value}
 use Rattle.css_tokens.proofs.HexValues.{hex-more}
-use Rattle.css_tokens.proofs.parts.hex_value.Goals as goal
+use Rattle.css_tokens.proofs.escapes.hex_value.Goals as goal
 
 pub loop-c-preserved : goal.loop-c-preserved
 loop-c-preserved c =

@@ -1,6 +1,6 @@
 use Rattle.std.proofs.Common.{◌∙◌, sym}
 use Rattle.css_tokens.proofs.KeptParts.{follows-other}
-use Rattle.css_tokens.proofs.spans.follows_hyphen.Goals as goal
+use Rattle.css_tokens.proofs.decoding.follows_hyphen.Goals as goal
 
 pub returns-else-starts_name : goal.returns-else-starts_name
 returns-else-starts_name c =

@@ -6,16 +6,16 @@ ghost use Rattle.css_model.specs.Pieces as model;
 ghost use Rattle.css_tokens.specs.Found.{IsFound};
 ghost use Rattle.css_tokens.specs.Views.{kind_view};
 
-use super::classes::{Class, is_quote, is_white};
-use super::comments::comment_piece;
-use super::names::name_piece;
-use super::numbers::number_piece;
-use super::numerals::begins_number;
-use super::parts::Place;
+use super::classes::{Class, is_quote, is_whitespace};
+use super::comments::consume_comment;
+use super::decoding::{decode, would_start_ident};
+use super::escapes::Place;
+use super::names::consume_ident_like;
+use super::numbers::consume_numeric;
+use super::numerals::would_start_number;
 use super::piece::Piece;
 use super::runs::{behind, run};
-use super::spans::{begins_identifier, read_span};
-use super::strings::string_piece;
+use super::strings::consume_string;
 use super::token::{Bracket, TokenKind};
 use port_core::NoMemory;
 use std::alloc::Global;
@@ -25,15 +25,15 @@ pub fn first_piece(alloc: Global, c: char, rest: &[char], text: &[char]) -> Resu
     requires { text.now ≡ c ∷ rest.now }
     ensures { IfOk result (λ p. IsFound p (model.first_piece c rest.now)) }
 {
-    if is_white(c) {
-        let (white, _) = run(Class::White, text);
-        Ok(Piece::token(TokenKind::WhiteSpace, white.len()))
+    if is_whitespace(c) {
+        let (white, _) = run(Class::Whitespace, text);
+        Ok(Piece::token(TokenKind::Whitespace, white.len()))
     } else if is_quote(c) {
-        string_piece(alloc, c, rest)
+        consume_string(alloc, c, rest)
     } else if begins_comment(text) {
-        Ok(comment_piece(behind(rest, 1)))
-    } else if begins_number(text) {
-        number_piece(alloc, text)
+        Ok(consume_comment(behind(rest, 1)))
+    } else if would_start_number(text) {
+        consume_numeric(alloc, text)
     } else {
         other_piece(alloc, c, rest, text)
     }
@@ -42,39 +42,30 @@ pub fn first_piece(alloc: Global, c: char, rest: &[char], text: &[char]) -> Resu
 fn begins_comment(cs: &[char]) -> bool
     ensures { result ≡ model.has_front (codes "/*") cs.now }
 {
-    match cs {
-        ['/', '*', ..] => true,
-        _ => false,
-    }
+    matches!(cs, ['/', '*', ..])
 }
 
 fn begins_cdc(cs: &[char]) -> bool
     ensures { result ≡ model.has_front (codes "-->") cs.now }
 {
-    match cs {
-        ['-', '-', '>', ..] => true,
-        _ => false,
-    }
+    matches!(cs, ['-', '-', '>', ..])
 }
 
 fn begins_cdo(cs: &[char]) -> bool
     ensures { result ≡ model.has_front (codes "<!--") cs.now }
 {
-    match cs {
-        ['<', '!', '-', '-', ..] => true,
-        _ => false,
-    }
+    matches!(cs, ['<', '!', '-', '-', ..])
 }
 
-/// The piece of a text that begins with no white space, quote, comment or number.
+/// The piece of a text that begins with no whitespace, quote, comment or number.
 fn other_piece(alloc: Global, c: char, rest: &[char], text: &[char]) -> Result<Piece, NoMemory>
     requires { text.now ≡ c ∷ rest.now }
     ensures { IfOk result (λ p. IsFound p (model.other_piece (parts_in in_name text.now) c rest.now)) }
 {
     if begins_cdc(text) {
         Ok(Piece::token(TokenKind::Cdc, 3))
-    } else if begins_identifier(text) {
-        name_piece(alloc, text)
+    } else if would_start_ident(text) {
+        consume_ident_like(alloc, text)
     } else if begins_cdo(text) {
         Ok(Piece::token(TokenKind::Cdo, 4))
     } else {
@@ -88,9 +79,9 @@ fn marked_piece(alloc: Global, c: char, rest: &[char]) -> Result<Piece, NoMemory
 {
     if c == '#' {
         hash_piece(alloc, rest)
-    } else if c == '@' && begins_identifier(rest) {
-        let span = read_span(alloc, Place::Name, rest)?;
-        Ok(Piece::token(TokenKind::AtKeyword(span.meaning), 1 + span.count))
+    } else if c == '@' && would_start_ident(rest) {
+        let decoded = decode(alloc, Place::Name, rest)?;
+        Ok(Piece::token(TokenKind::AtKeyword(decoded.meaning), 1 + decoded.count))
     } else {
         Ok(Piece::token(kind_of(c), 1))
     }
@@ -100,12 +91,15 @@ fn marked_piece(alloc: Global, c: char, rest: &[char]) -> Result<Piece, NoMemory
 fn hash_piece(alloc: Global, rest: &[char]) -> Result<Piece, NoMemory>
     ensures { IfOk result (λ p. IsFound p (model.marked_piece 35 (parts_in in_name rest.now))) }
 {
-    let span = read_span(alloc, Place::Name, rest)?;
-    if span.count == 0 {
+    let decoded = decode(alloc, Place::Name, rest)?;
+    if decoded.count == 0 {
         return Ok(Piece::token(kind_of('#'), 1));
     }
-    let kind = TokenKind::Hash(span.meaning, begins_identifier(rest));
-    Ok(Piece::token(kind, 1 + span.count))
+    let kind = TokenKind::Hash {
+        name: decoded.meaning,
+        is_id: would_start_ident(rest),
+    };
+    Ok(Piece::token(kind, 1 + decoded.count))
 }
 
 /// The class of a single character.

@@ -2,7 +2,7 @@ use Rattle.std.proofs.Common.{◌≡◌, ◌+◌, ◌-◌, ◌≤◌, length, dr
 use Rattle.css_model.specs.Parts.{parts_text}
 use Rattle.css_model.specs.Fronts.{parts_in}
 use Rattle.css_tokens.specs.Kept.{allowed_at}
-use Rattle.css_tokens.proofs.spans.span_length.Given as goal
+use Rattle.css_tokens.proofs.decoding.spelled_length.Given as goal
 
 abbrev pub invariant-loop-part : goal.invariant-loop-part
 invariant-loop-part l = record {

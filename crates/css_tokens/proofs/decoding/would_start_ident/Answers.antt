@@ -1,6 +1,6 @@
 use Rattle.std.proofs.Common.{◌∙◌, sym}
 use Rattle.css_tokens.proofs.KeptParts.{begins-first, begins-other}
-use Rattle.css_tokens.proofs.spans.begins_identifier.Goals as goal
+use Rattle.css_tokens.proofs.decoding.would_start_ident.Goals as goal
 
 pub returns-then-starts_name : goal.returns-then-starts_name
 returns-then-starts_name c =

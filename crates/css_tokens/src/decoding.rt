@@ -3,11 +3,11 @@ ghost use Rattle.std.specs.Prelude.{◌≡◌, ◌≤◌, ◌++◌, length, flat
 ghost use Rattle.css_model.specs.Parts.{parts_text};
 ghost use Rattle.css_model.specs.Fronts.{parts_in};
 ghost use Rattle.css_model.specs.Spellings as model;
-ghost use Rattle.css_tokens.specs.declared.parts.Place.TheVariants as place;
+ghost use Rattle.css_tokens.specs.declared.escapes.Place.TheVariants as place;
 ghost use Rattle.css_tokens.specs.Kept as kept;
 ghost use Rattle.css_tokens.specs.Kept.{allowed_at, meaning_at};
 
-use super::parts::{Part, Place, part_at};
+use super::escapes::{Part, Place, part_at};
 use super::runs::behind;
 use super::written::Written;
 use port_core::{NoMemory, Text};
@@ -15,7 +15,7 @@ use std::alloc::Global;
 
 /// Parts in front of a text.
 #[derive(Debug, Drop)]
-pub struct Span {
+pub struct Decoded {
     /// How many characters spell them.
     pub count: usize,
     /// What they stand for.
@@ -40,7 +40,7 @@ fn front_part(place: Place, cs: &[char]) -> Option<Part>
 }
 
 /// How many characters spell the parts in front, as long as they may stand at this place.
-pub fn span_length(place: Place, cs: &[char]) -> usize
+pub fn spelled_length(place: Place, cs: &[char]) -> usize
     ensures count { result ≡ length (parts_text (parts_in (allowed_at place) cs.now)) }
     ensures within { result ≤ length cs.now }
 {
@@ -52,7 +52,7 @@ pub fn span_length(place: Place, cs: &[char]) -> usize
 }
 
 /// The parts in front, as long as they may stand at this place.
-pub fn read_span(alloc: Global, place: Place, cs: &[char]) -> Result<Span, NoMemory>
+pub fn decode(alloc: Global, place: Place, cs: &[char]) -> Result<Decoded, NoMemory>
     ensures count { IfOk result (λ s. s.count ≡ length (parts_text (parts_in (allowed_at place) cs.now))) }
     ensures within { IfOk result (λ s. s.count ≤ length cs.now) }
     ensures meaning { IfOk result (λ s. s.meaning ≡ flat_map (meaning_at place) (parts_in (allowed_at place) cs.now)) }
@@ -63,7 +63,7 @@ pub fn read_span(alloc: Global, place: Place, cs: &[char]) -> Result<Span, NoMem
         write(&mut written, part.meaning(place))?;
         count += part.len();
     }
-    Ok(Span {
+    Ok(Decoded {
         count,
         meaning: written.into_text(),
     })
@@ -80,8 +80,8 @@ fn write(written: &mut Written, meaning: Option<char>) -> Result<(), NoMemory>
 
 /// Whether the parts of a name in front begin as an identifier does (CSS Syntax 3, section 4.3.9).
 #[tactic(auto, using(crate::proofs::KeptParts::begins_more, crate::proofs::KeptParts::begins_none))]
-pub fn begins_identifier(cs: &[char]) -> bool
-    ensures { result ≡ model.begins_identifier (parts_in (allowed_at place.Name) cs.now) }
+pub fn would_start_ident(cs: &[char]) -> bool
+    ensures { result ≡ model.would_start_ident (parts_in (allowed_at place.Name) cs.now) }
 {
     match front_part(Place::Name, cs) {
         Some(part) => {
