@@ -64,22 +64,6 @@ kids_at-with_place place id parent slots = elim (same-or-not parent id) [
   | inr ne ↦ ap kids_of_slot (slot_at-changed_other (with_place place) id parent slots ne)
 ]
 
--- ---- a number that goes down in a list
-
-pub insert-last : (xs : List ℕ) (x : ℕ) → xs ++ x ∷ [] ≡ insert xs (length xs) x
-insert-last [] x = refl
-insert-last (y ∷ ys) x = ap (λ zs. y ∷ zs) (insert-last ys x)
-
-insert-back : (xs : List ℕ) (k x : ℕ) → k < length xs → slice_set (slice_set (insert xs (suc k) x) (suc k) (get_or (insert xs (suc k) x) k 0)) k x ≡ insert xs k x
-insert-back [] k x l = absurd (omega arith)
-insert-back (z ∷ zs) zero x l = refl
-insert-back (z ∷ zs) (suc k) x l = ap (λ ws. z ∷ ws) (insert-back zs k x (omega arith))
-
-pub insert-stepped : (xs ys : List ℕ) (p k x : ℕ) → p ≡ suc k → p ≤ length xs → ys ≡ insert xs p x → slice_set (slice_set ys p (get_or ys k 0)) k x ≡ insert xs k x
-insert-stepped xs ys p k x s l e =
-    ap (λ zs. slice_set (slice_set zs p (get_or zs k 0)) k x) e
-    ∙ (ap (λ q. slice_set (slice_set (insert xs q x) q (get_or (insert xs q x) k 0)) k x) s ∙ insert-back xs k x (omega arith))
-
 -- ---- parents above
 
 pub parents_above-more : (slots : List (Option Slot)) (k k' at up : ℕ) → parent_in_slot (slot_at slots at) ≡ Some up → k' ≡ suc k → parents_above slots k' at ≡ suc (parents_above slots k up)

@@ -6,6 +6,7 @@ ghost use Rattle.page_model.specs.Limits.{max_ids};
 ghost use Rattle.dom_arena.specs.Shape.{shape};
 ghost use Rattle.dom_arena.specs.Rows.{rows, all_rows, IsLonger};
 
+use super::child_ids::ChildIds;
 use super::slot::{Content, Slot};
 use super::tree::Tree;
 use port_core::{NoMemory, NodeId, Seq, Text};
@@ -119,13 +120,13 @@ fn append_all(
     slots: &mut Vec<Option<Slot>>,
     kids: &[Tree],
     parent: NodeId,
-) -> Result<Seq<NodeId>, NoMemory>
+) -> Result<ChildIds, NoMemory>
     requires room { length slots.old.items + sizes (trees_of (map shape kids.now)) ≤ max_ids }
     ensures numbers { IfOk result (λ numbers. numbers ≡ ids_of (all_numbered (length slots.old.items) (trees_of (map shape kids.now)))) }
     ensures copied { OnOk result (slots.new.items ≡ slots.old.items ++ all_rows parent 0 (all_numbered (length slots.old.items) (trees_of (map shape kids.now)))) }
     ensures longer { OnErr result (IsLonger slots.old.items slots.new.items) }
 {
-    let mut numbers = Seq::new(alloc);
+    let mut numbers = ChildIds::new(alloc);
     for i in 0..kids.len() {
         let number = append(alloc, slots, &kids[i], Some(parent), i)?;
         numbers.push(number)?;

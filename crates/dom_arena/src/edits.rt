@@ -12,25 +12,8 @@ ghost use Rattle.dom_arena.specs.Writes.{with_kid, without_kid, with_place, chan
 use super::slot::{Content, Slot};
 use super::tree::Tree;
 use super::{copies, table};
-use port_core::{NoMemory, NodeId, Seq};
+use port_core::{NoMemory, NodeId};
 use std::alloc::Global;
-
-/// Puts a number into a list, with so many before it.
-fn put(ids: &mut Seq<NodeId>, at: usize, id: NodeId) -> Result<(), NoMemory>
-    requires within { at ≤ length ids.old }
-    ensures put { OnOk result (ids.new ≡ insert ids.old at id) }
-    ensures kept { OnErr result (ids.new ≡ ids.old) }
-{
-    let mut place = ids.len();
-    ids.push(id)?;
-    while place > at {
-        let before = ids.as_slice()[place - 1];
-        ids.set(place, before);
-        place -= 1;
-        ids.set(place, id);
-    }
-    Ok(())
-}
 
 /// Puts a child into an element's slot.
 fn put_kid(slot: &mut Option<Slot>, at: usize, id: NodeId) -> Result<(), NoMemory>
@@ -44,7 +27,7 @@ fn put_kid(slot: &mut Option<Slot>, at: usize, id: NodeId) -> Result<(), NoMemor
                 content: Content::Element(_, _, kids),
                 ..
             },
-        ) => put(kids, at, id),
+        ) => kids.insert(at, id),
         _ => Ok(()),
     }
 }

@@ -30,10 +30,11 @@ pub fn check(tree: &Tree, above: u32, live: u32, given: u32) -> Result<(), DocFa
     if !is_within(tree, MAX_DEPTH - above) {
         return Err(DocFault::DepthLimit);
     }
-    if room_after(tree, MAX_NODES - live).is_none() {
+    let room = MAX_NODES - live;
+    let Some(left) = room_after(tree, room) else {
         return Err(DocFault::NodeLimit);
-    }
-    if room_after(tree, MAX_IDS - given).is_none() {
+    };
+    if room - left > MAX_IDS - given {
         return Err(DocFault::IdLimit);
     }
     Ok(())
@@ -71,10 +72,7 @@ fn room_after(tree: &Tree, room: u32) -> Option<u32>
     ensures { MatchOption result (room < size (shape tree.now)) (λ left. left + size (shape tree.now) ≡ room) }
 {
     match tree {
-        Tree::Elem(_, _, kids) => match room.checked_sub(1) {
-            Some(left) => room_after_all(kids.as_slice(), left),
-            None => None,
-        },
+        Tree::Elem(_, _, kids) => room_after_all(kids.as_slice(), room.checked_sub(1)?),
         Tree::Chars(_) => room.checked_sub(1),
     }
 }
@@ -85,10 +83,7 @@ fn room_after_all(kids: &[Tree], room: u32) -> Option<u32>
 {
     let mut left = room;
     for kid in kids {
-        match room_after(kid, left) {
-            Some(rest) => left = rest,
-            None => return None,
-        }
+        left = room_after(kid, left)?;
     }
     Some(left)
 }

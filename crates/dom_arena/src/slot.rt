@@ -1,9 +1,10 @@
+use super::child_ids::ChildIds;
 use port_core::{NodeId, Seq, Text};
 
 /// What a node is: an element, with its name, its attributes and the numbers of its children, or a text.
 #[derive(Debug, Drop)]
 pub enum Content {
-    Element(Text, Seq<(Text, Text)>, Seq<NodeId>),
+    Element(Text, Seq<(Text, Text)>, ChildIds),
     Chars(Text),
 }
 

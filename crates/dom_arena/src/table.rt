@@ -41,12 +41,9 @@ pub fn kids(slots: &[Option<Slot>], id: NodeId) -> &[NodeId]
 pub fn name(slots: &[Option<Slot>], id: NodeId) -> Option<&str>
     ensures { option_map (λ s. s.now) result ≡ option_map encode_utf8_all (name_in (slot_at slots.now id)) }
 {
-    match live_slot(slots, id) {
-        Some(slot) => match &slot.content {
-            Content::Element(name, _, _) => Some(name.as_str()),
-            Content::Chars(_) => None,
-        },
-        None => None,
+    match &live_slot(slots, id)?.content {
+        Content::Element(name, _, _) => Some(name.as_str()),
+        Content::Chars(_) => None,
     }
 }
 

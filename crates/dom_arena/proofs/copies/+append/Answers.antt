@@ -21,7 +21,7 @@ append_all-loop-i-preserved t c =
     record {
       many = omega (arith, c.loop-i.invariant.many);
       room = omega (arith, c.loop-i.invariant.room);
-      numbers = sym (numbers-more c.loop-i.slots.items c.append.new.slots.items c.loop-i.numbers _ c.args.parent c.loop-i.i _ (shape kid) rest c.in_ok-number.ensures.copied c.in_ok-number.ensures.number c.in_ok-push.ensures.ok)
+      numbers = sym (numbers-more c.loop-i.slots.items c.append.new.slots.items c.loop-i.numbers _ c.args.parent c.loop-i.i _ (shape kid) rest c.in_ok-number.ensures.copied c.in_ok-number.ensures.number c.in_ok-push.ensures.pushed)
           ∙ (ap (λ ts. c.loop-i.numbers ++ ids_of (all_numbered (length c.loop-i.slots.items) ts)) (sym split) ∙ c.loop-i.invariant.numbers);
       copied = sym (copied-more c.loop-i.slots.items c.append.new.slots.items c.args.parent c.loop-i.i (shape kid) rest c.in_ok-number.ensures.copied)
           ∙ (ap (λ ts. c.loop-i.slots.items ++ all_rows c.args.parent c.loop-i.i (all_numbered (length c.loop-i.slots.items) ts)) (sym split) ∙ c.loop-i.invariant.copied);
