@@ -46,18 +46,18 @@ cleared-append (x ∷ xs) ys slots = cleared-append xs ys (slice_set slots x Non
 
 -- of these nodes those with these numbers are still to be cleared
 pub record Clearing (old slots : List (Option Slot)) (live count levels up : ℕ) (ns : Nodes) (kids : List ℕ) : Type 0 where
-  pub place : ℕ
+  pub index : ℕ
   pub rest : Nodes
   pub ids : ids_of rest ≡ kids
-  pub held : HoldsAll slots up place rest
+  pub held : HoldsAll slots up index rest
   pub low : heights rest ≤ levels
   pub distinct : AreDistinct (all_ids rest)
   pub clears : cleared (all_ids rest) slots ≡ cleared (all_ids ns) old
   pub counts : count - length (all_ids rest) ≡ live - length (all_ids ns)
 
-pub clearing-all : (slots : List (Option Slot)) (live levels up place : ℕ) (ns : Nodes) → HoldsAll slots up place ns → heights ns ≤ levels → AreDistinct (all_ids ns) → Clearing slots slots live live levels up ns (ids_of ns)
-clearing-all slots live levels up place ns h l d = record {
-  place = place;
+pub clearing-all : (slots : List (Option Slot)) (live levels up index : ℕ) (ns : Nodes) → HoldsAll slots up index ns → heights ns ≤ levels → AreDistinct (all_ids ns) → Clearing slots slots live live levels up ns (ids_of ns)
+clearing-all slots live levels up index ns h l d = record {
+  index = index;
   rest = ns;
   ids = refl;
   held = h;
@@ -71,22 +71,22 @@ nil-cons : (x : ℕ) (xs : List ℕ) → [] ≡ x ∷ xs → ⊥
 nil-cons x xs h = let n : 0 ≡ suc (length xs) = ap length h in omega (arith, n)
 
 -- the first of these nodes was cleared
-clear-first : (old cur new : List (Option Slot)) (live count count' levels up place kid : ℕ) (ns rest : Nodes) (kids : List ℕ)
-    → ids_of rest ≡ kid ∷ kids → HoldsAll cur up place rest → heights rest ≤ levels → AreDistinct (all_ids rest)
+clear-first : (old cur new : List (Option Slot)) (live count count' levels up index kid : ℕ) (ns rest : Nodes) (kids : List ℕ)
+    → ids_of rest ≡ kid ∷ kids → HoldsAll cur up index rest → heights rest ≤ levels → AreDistinct (all_ids rest)
     → cleared (all_ids rest) cur ≡ cleared (all_ids ns) old → count - length (all_ids rest) ≡ live - length (all_ids ns)
-    → ((up : Option ℕ) (place : ℕ) (n : Node) → Holds cur up place n → id_of n ≡ kid → height n ≤ levels → AreDistinct (ids n) → Clears cur new count count' (ids n))
+    → ((up : Option ℕ) (index : ℕ) (n : Node) → Holds cur up index n → id_of n ≡ kid → height n ≤ levels → AreDistinct (ids n) → Clears cur new count count' (ids n))
     → Clearing old new live count' levels up ns kids
-clear-first old cur new live count count' levels up place kid ns no_nodes kids is h l d e k clear = absurd (nil-cons kid kids is)
-clear-first old cur new live count count' levels up place kid ns (node n rest) kids is h l d e k clear =
-    let did : Clears cur new count count' (ids n) = clear (Some up) place n h.0 (ap (λ xs. get_or xs 0 0) is) (omega (arith, l)) (distinct-left (ids n) (all_ids rest) d) in
+clear-first old cur new live count count' levels up index kid ns no_nodes kids is h l d e k clear = absurd (nil-cons kid kids is)
+clear-first old cur new live count count' levels up index kid ns (node n rest) kids is h l d e k clear =
+    let did : Clears cur new count count' (ids n) = clear (Some up) index n h.0 (ap (λ xs. get_or xs 0 0) is) (omega (arith, l)) (distinct-left (ids n) (all_ids rest) d) in
     let same : (j : ℕ) → IsAmong j (all_ids rest) → slot_at new j ≡ slot_at cur j = λ j b.
     ap (λ s. slot_at s j) did.0 ∙ cleared-other (ids n) cur j (λ a. distinct-apart j (ids n) (all_ids rest) d a b) in
     let long : length (ids n ++ all_ids rest) ≡ length (ids n) + length (all_ids rest) = length-append (ids n) (all_ids rest) in
     record {
-      place = suc place;
+      index = suc index;
       rest = rest;
       ids = ap (drop 1) is;
-      held = HoldsAll-same cur new up (suc place) rest same h.1;
+      held = HoldsAll-same cur new up (suc index) rest same h.1;
       low = omega (arith, l);
       distinct = distinct-right (ids n) (all_ids rest) d;
       clears = ap (cleared (all_ids rest)) did.0 ∙ (sym (cleared-append (ids n) (all_ids rest) cur) ∙ e);
@@ -95,10 +95,10 @@ clear-first old cur new live count count' levels up place kid ns (node n rest) k
 
 pub clearing-more : (old cur new : List (Option Slot)) (live count count' levels up : ℕ) (ns : Nodes) (kids : List ℕ) (i d : ℕ)
     → i < length kids → Clearing old cur live count levels up ns (drop i kids)
-    → ((up : Option ℕ) (place : ℕ) (n : Node) → Holds cur up place n → id_of n ≡ get_or kids i d → height n ≤ levels → AreDistinct (ids n) → Clears cur new count count' (ids n))
+    → ((up : Option ℕ) (index : ℕ) (n : Node) → Holds cur up index n → id_of n ≡ get_or kids i d → height n ≤ levels → AreDistinct (ids n) → Clears cur new count count' (ids n))
     → Clearing old new live count' levels up ns (drop (i + 1) kids)
 clearing-more old cur new live count count' levels up ns kids i d l c clear =
-    clear-first old cur new live count count' levels up c.place (get_or kids i d) ns c.rest (drop (i + 1) kids) (c.ids ∙ rw add-one (drop-cons kids i d l)) c.held c.low c.distinct c.clears c.counts clear
+    clear-first old cur new live count count' levels up c.index (get_or kids i d) ns c.rest (drop (i + 1) kids) (c.ids ∙ rw add-one (drop-cons kids i d l)) c.held c.low c.distinct c.clears c.counts clear
 
 cleared-none : (slots : List (Option Slot)) → cleared [] slots ≡ slots
 unfolding cleared
@@ -113,14 +113,14 @@ clearing-done old new live count levels up ns kids e c = clears-end old new live
 
 -- ---- a node with all below it
 
-kids-held : (up : Option ℕ) (place : ℕ) (n : Node) (o : Option Slot) → o ≡ Some (slot_of up place n) → kids_of_slot o ≡ ids_of (kids_of n)
-kids-held up place (element id name attributes kids) o e = ap kids_of_slot e
-kids-held up place (text id cs) o e = ap kids_of_slot e
+kids-held : (up : Option ℕ) (index : ℕ) (n : Node) (o : Option Slot) → o ≡ Some (slot_of up index n) → kids_of_slot o ≡ ids_of (kids_of n)
+kids-held up index (element id name attributes kids) o e = ap kids_of_slot e
+kids-held up index (text id cs) o e = ap kids_of_slot e
 
-clear-kids : (old : List (Option Slot)) (up : Option ℕ) (place : ℕ) (n : Node) → Holds old up place n → AreDistinct (ids n) → HoldsAll (slice_set old (id_of n) None) (id_of n) 0 (kids_of n)
-clear-kids old up place (element id name attributes kids) h d =
+clear-kids : (old : List (Option Slot)) (up : Option ℕ) (index : ℕ) (n : Node) → Holds old up index n → AreDistinct (ids n) → HoldsAll (slice_set old (id_of n) None) (id_of n) 0 (kids_of n)
+clear-kids old up index (element id name attributes kids) h d =
     HoldsAll-same old (slice_set old id None) id 0 kids (λ j b. slot_at-set_other old id j None (λ e. d.0 (subst (λ (m : ℕ). IsAmong m (all_ids kids)) e b))) h.1
-clear-kids old up place (text id cs) h d = tt
+clear-kids old up index (text id cs) h d = tt
 
 distinct-kids : (n : Node) → AreDistinct (ids n) → AreDistinct (all_ids (kids_of n))
 distinct-kids (element id name attributes kids) d = d.1
@@ -145,12 +145,12 @@ height-some (text id cs) = omega arith
 
 pub clear-node : (old cut new : List (Option Slot)) (live count count' id levels : ℕ) (kids : List ℕ)
     → cut ≡ slice_set old id None → kids ≡ kids_of_slot (slot_at old id) → count ≡ live - 1
-    → ((up place : ℕ) (ns : Nodes) → HoldsAll cut up place ns → ids_of ns ≡ kids → heights ns ≤ levels - 1 → AreDistinct (all_ids ns) → Clears cut new count count' (all_ids ns))
-    → (up : Option ℕ) (place : ℕ) (n : Node) → Holds old up place n → id_of n ≡ id → height n ≤ levels → AreDistinct (ids n) → Clears old new live count' (ids n)
-clear-node old cut new live count count' id levels kids cut_is kids_are less clear up place n h is l d =
+    → ((up index : ℕ) (ns : Nodes) → HoldsAll cut up index ns → ids_of ns ≡ kids → heights ns ≤ levels - 1 → AreDistinct (all_ids ns) → Clears cut new count count' (all_ids ns))
+    → (up : Option ℕ) (index : ℕ) (n : Node) → Holds old up index n → id_of n ≡ id → height n ≤ levels → AreDistinct (ids n) → Clears old new live count' (ids n)
+clear-node old cut new live count count' id levels kids cut_is kids_are less clear up index n h is l d =
     let cut_at : cut ≡ slice_set old (id_of n) None = cut_is ∙ ap (λ i. slice_set old i None) (sym is) in
-    let below : HoldsAll cut (id_of n) 0 (kids_of n) = subst (λ (s : List (Option Slot)). HoldsAll s (id_of n) 0 (kids_of n)) (sym cut_at) (clear-kids old up place n h d) in
-    let same : ids_of (kids_of n) ≡ kids = sym (kids_are ∙ (ap (λ i. kids_of_slot (slot_at old i)) (sym is) ∙ kids-held up place n (slot_at old (id_of n)) (Holds-top old up place n h))) in
+    let below : HoldsAll cut (id_of n) 0 (kids_of n) = subst (λ (s : List (Option Slot)). HoldsAll s (id_of n) 0 (kids_of n)) (sym cut_at) (clear-kids old up index n h d) in
+    let same : ids_of (kids_of n) ≡ kids = sym (kids_are ∙ (ap (λ i. kids_of_slot (slot_at old i)) (sym is) ∙ kids-held up index n (slot_at old (id_of n)) (Holds-top old up index n h))) in
     let did : Clears cut new count count' (all_ids (kids_of n)) = clear (id_of n) 0 (kids_of n) below same (heights-kids n levels l) (distinct-kids n d) in
     let long : length (ids n) ≡ 1 + length (all_ids (kids_of n)) = length-node n in
     (did.0 ∙ (ap (cleared (all_ids (kids_of n))) cut_at ∙ sym (cleared-node n old)), omega (arith, did.1, less, long))

@@ -13,33 +13,33 @@ use Rattle.dom_arena.specs.Writes.{parents_above}
 use Rattle.dom_arena.proofs.Writes.{parents_above-more, parents_above-none}
 
 -- one step up from the slot of a kid
-step-up : (slots : List (Option Slot)) (i id up place m : ℕ) (n : Node) → (i == id) ≡ true → slot_at slots id ≡ Some (slot_of (Some up) place n) → parents_above slots (1 + m) i ≡ 1 + parents_above slots m up
-step-up slots i id up place m n t h =
+step-up : (slots : List (Option Slot)) (i id up index m : ℕ) (n : Node) → (i == id) ≡ true → slot_at slots id ≡ Some (slot_of (Some up) index n) → parents_above slots (1 + m) i ≡ 1 + parents_above slots m up
+step-up slots i id up index m n t h =
     ap (parents_above slots (1 + m)) (eqb-true i id t) ∙ (parents_above-more slots m (1 + m) id up (ap parent_in_slot h) (omega arith) ∙ omega arith)
 
 mutual
-  Holds-above : (slots : List (Option Slot)) (up place i l m : ℕ) (n : Node) → Holds slots (Some up) place n → level i n ≡ Some l → parents_above slots (l + m) i ≡ l + parents_above slots m up
-  Holds-above slots up place i l m (element id name attributes kids) h e = elim (level-element (i == id) (level_in i kids) l e) [
-    | inl k ↦ ap (λ j. parents_above slots (j + m) i) k.1 ∙ (step-up slots i id up place m (element id name attributes kids) k.0 h.0 ∙ ap (λ j. j + parents_above slots m up) (sym k.1))
+  Holds-above : (slots : List (Option Slot)) (up index i l m : ℕ) (n : Node) → Holds slots (Some up) index n → level i n ≡ Some l → parents_above slots (l + m) i ≡ l + parents_above slots m up
+  Holds-above slots up index i l m (element id name attributes kids) h e = elim (level-element (i == id) (level_in i kids) l e) [
+    | inl k ↦ ap (λ j. parents_above slots (j + m) i) k.1 ∙ (step-up slots i id up index m (element id name attributes kids) k.0 h.0 ∙ ap (λ j. j + parents_above slots m up) (sym k.1))
     | inr k ↦
         let below : parents_above slots (k.1.0 + suc m) i ≡ k.1.0 + parents_above slots (suc m) id = HoldsAll-above slots id 0 i k.1.0 (suc m) kids h.1 k.1.1 in
         let top : parents_above slots (suc m) id ≡ suc (parents_above slots m up) = parents_above-more slots m (suc m) id up (ap parent_in_slot h.0) refl in
         ap (λ j. parents_above slots j i) (omega (arith, k.1.2)) ∙ (below ∙ omega (arith, top, k.1.2))
   ]
-  Holds-above slots up place i l m (text id cs) h e =
+  Holds-above slots up index i l m (text id cs) h e =
       let k = level-text (i == id) l e in
-      ap (λ j. parents_above slots (j + m) i) k.1 ∙ (step-up slots i id up place m (text id cs) k.0 h ∙ ap (λ j. j + parents_above slots m up) (sym k.1))
+      ap (λ j. parents_above slots (j + m) i) k.1 ∙ (step-up slots i id up index m (text id cs) k.0 h ∙ ap (λ j. j + parents_above slots m up) (sym k.1))
 
-  HoldsAll-above : (slots : List (Option Slot)) (up place i l m : ℕ) (ns : Nodes) → HoldsAll slots up place ns → level_in i ns ≡ Some l → parents_above slots (l + m) i ≡ l + parents_above slots m up
-  HoldsAll-above slots up place i l m no_nodes h e = absurd (none-some l e)
-  HoldsAll-above slots up place i l m (node n ns) h e = elim (or-found (level i n) (level_in i ns) l e) [
-    | inl k ↦ Holds-above slots up place i l m n h.0 k
-    | inr k ↦ HoldsAll-above slots up (suc place) i l m ns h.1 k.1
+  HoldsAll-above : (slots : List (Option Slot)) (up index i l m : ℕ) (ns : Nodes) → HoldsAll slots up index ns → level_in i ns ≡ Some l → parents_above slots (l + m) i ≡ l + parents_above slots m up
+  HoldsAll-above slots up index i l m no_nodes h e = absurd (none-some l e)
+  HoldsAll-above slots up index i l m (node n ns) h e = elim (or-found (level i n) (level_in i ns) l e) [
+    | inl k ↦ Holds-above slots up index i l m n h.0 k
+    | inr k ↦ HoldsAll-above slots up (suc index) i l m ns h.1 k.1
   ]
 
 -- at the root
-root-above : (slots : List (Option Slot)) (place i l m : ℕ) (n : Node) → Holds slots None place n → level i n ≡ Some (suc l) → parents_above slots (l + m) i ≡ l
-root-above slots place i l m (element id name attributes kids) h e = elim (level-element (i == id) (level_in i kids) (suc l) e) [
+root-above : (slots : List (Option Slot)) (index i l m : ℕ) (n : Node) → Holds slots None index n → level i n ≡ Some (suc l) → parents_above slots (l + m) i ≡ l
+root-above slots index i l m (element id name attributes kids) h e = elim (level-element (i == id) (level_in i kids) (suc l) e) [
   | inl k ↦
       let here : parents_above slots (l + m) i ≡ 0 = parents_above-none slots (l + m) i (ap (λ j. parent_in_slot (slot_at slots j)) (eqb-true i id k.0) ∙ ap parent_in_slot h.0) in
       omega (arith, here, k.1)
@@ -49,7 +49,7 @@ root-above slots place i l m (element id name attributes kids) h e = elim (level
       let same : parents_above slots (l + m) i ≡ parents_above slots (k.1.0 + m) i = ap (λ j. parents_above slots j i) (omega (arith, k.1.2)) in
       omega (arith, below, same, top, k.1.2)
 ]
-root-above slots place i l m (text id cs) h e =
+root-above slots index i l m (text id cs) h e =
     let k = level-text (i == id) (suc l) e in
     let here : parents_above slots (l + m) i ≡ 0 = parents_above-none slots (l + m) i (ap (λ j. parent_in_slot (slot_at slots j)) (eqb-true i id k.0) ∙ ap parent_in_slot h) in
     omega (arith, here, k.1)

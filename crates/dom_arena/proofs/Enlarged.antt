@@ -18,7 +18,7 @@ use Rattle.dom_arena.specs.Writes.{with_kid, changed, attached, enlarged}
 use Rattle.dom_arena.proofs.Checked.{Fits, fits, first-none}
 use Rattle.dom_arena.proofs.Writes.{slot_at-changed_other}
 use Rattle.dom_arena.proofs.Same.{Holds-same}
-use Rattle.dom_arena.proofs.Placed.{placed-other, length-placed, live-changed, live-placed}
+use Rattle.dom_arena.proofs.Indexed.{indexed-other, length-indexed, live-changed, live-indexed}
 use Rattle.dom_arena.proofs.Held.{IsHeld, find-held}
 use Rattle.page_model.proofs.Members.{find-id}
 use Rattle.dom_arena.proofs.Readings.{table-kids}
@@ -87,7 +87,7 @@ pub length-enlarged : (parent at : ℕ) (t : Tree) (slots : List (Option Slot)) 
 length-enlarged parent at t slots =
     let longer : List (Option Slot) = slots ++ rows (Some parent) at (numbered (length slots) t) in
     let next : List (Option Slot) = changed (with_kid at (length slots)) parent longer in
-    length-placed at (drop at (kids_at next parent)) next
+    length-indexed at (drop at (kids_at next parent)) next
     ∙ (length-set longer parent (option_map (with_kid at (length slots)) (slot_at longer parent))
     ∙ (length-append slots (rows (Some parent) at (numbered (length slots) t)) ∙ ap (λ k. length slots + k) (length-rows (Some parent) at (length slots) t)))
 
@@ -96,7 +96,7 @@ live-enlarged : (parent at : ℕ) (t : Tree) (slots : List (Option Slot)) (j : �
 live-enlarged parent at t slots j =
     let longer : List (Option Slot) = slots ++ rows (Some parent) at (numbered (length slots) t) in
     let next : List (Option Slot) = changed (with_kid at (length slots)) parent longer in
-    live-placed at (drop at (kids_at next parent)) next j ∙ live-changed (with_kid at (length slots)) parent j longer
+    live-indexed at (drop at (kids_at next parent)) next j ∙ live-changed (with_kid at (length slots)) parent j longer
 
 held-enlarged : (slots : List (Option Slot)) (root : Node) (parent at : ℕ) (t : Tree) → IsTable slots root → MayInsert parent at t root (length slots)
     → Holds (enlarged parent at t slots) None 0 (inserted parent at (numbered (length slots) t) root)
@@ -110,16 +110,16 @@ held-enlarged slots root parent at t table may =
     let is : parent ≡ id_of may.node = find-id parent root may.node may.found in
     let number : id_of new ≡ length slots = id_of-numbered (length slots) t in
     let apart : AreApart (ids new) (ids may.node) = apart-numbered (length slots) t (ids may.node) (λ j b. table.numbered j (find-part parent root may.node j may.found b)) in
-    let here : (up : Option ℕ) (place : ℕ) → Holds longer up place may.node → Holds (enlarged parent at t slots) up place (inserted parent at new may.node) = λ up place h.
-    subst (λ (x : ℕ). Holds (attached parent at x longer) up place (inserted parent at new may.node)) number
-    (subst (λ (q : ℕ). Holds (attached q at (id_of new) longer) up place (inserted q at new may.node)) (sym is)
-    (parent-held longer up place at at new may.node h may.named (subst (λ (q : ℕ). Holds longer (Some q) at new) is fresh) (find-distinct parent root may.node may.found table.distinct) (distinct-numbered (length slots) t) apart may.within)) in
+    let here : (up : Option ℕ) (index : ℕ) → Holds longer up index may.node → Holds (enlarged parent at t slots) up index (inserted parent at new may.node) = λ up index h.
+    subst (λ (x : ℕ). Holds (attached parent at x longer) up index (inserted parent at new may.node)) number
+    (subst (λ (q : ℕ). Holds (attached q at (id_of new) longer) up index (inserted q at new may.node)) (sym is)
+    (parent-held longer up index at at new may.node h may.named (subst (λ (q : ℕ). Holds longer (Some q) at new) is fresh) (find-distinct parent root may.node may.found table.distinct) (distinct-numbered (length slots) t) apart may.within)) in
     let at_parent : IsHeld longer may.node = find-held longer None 0 parent root may.node old may.found in
     let list : drop at (kids_at next parent) ≡ length slots ∷ drop at (ids_of (kids_of may.node)) =
     subst (λ (q : ℕ). drop at (kids_at (changed (with_kid at (length slots)) q longer) q) ≡ length slots ∷ drop at (ids_of (kids_of may.node))) (sym is)
     (attached-list longer at_parent.0 at_parent.1 at (length slots) may.node at_parent.2 may.named may.within) in
     let same : (j : ℕ) → IsAmong j (ids root) → (IsAmong j (ids may.node) → ⊥) → slot_at (enlarged parent at t slots) j ≡ slot_at longer j = λ j a out.
-    placed-other at (drop at (kids_at next parent)) next j
+    indexed-other at (drop at (kids_at next parent)) next j
     (λ b. elim (subst (IsAmong j) list b) [
       | inl e ↦ let low : j < length slots = table.numbered j a in absurd (omega (arith, e, low))
       | inr k ↦ out (kid-below j may.node (among-drop j at (ids_of (kids_of may.node)) k))

@@ -16,37 +16,37 @@ use Rattle.page_model.proofs.Options.{is_some-or_else, is_some-if_some, or_or, I
 abbrev HasContent : List (Option Slot) → ℕ → Node → Type 0
 HasContent slots i n = option_map (λ (s : Slot). s.content) (slot_at slots i) ≡ Some (content_of n)
 
-HasContent-slot : (slots : List (Option Slot)) (i id : ℕ) (up : Option ℕ) (place : ℕ) (n : Node) → i ≡ id → slot_at slots id ≡ Some (slot_of up place n) → HasContent slots i n
-HasContent-slot slots i id up place n e h =
+HasContent-slot : (slots : List (Option Slot)) (i id : ℕ) (up : Option ℕ) (index : ℕ) (n : Node) → i ≡ id → slot_at slots id ≡ Some (slot_of up index n) → HasContent slots i n
+HasContent-slot slots i id up index n e h =
     ap (λ o. option_map (λ (s : Slot). s.content) o) (ap (slot_at slots) e ∙ h)
 
 mutual
-  pub Holds-find : (slots : List (Option Slot)) (up : Option ℕ) (place i : ℕ) (n : Node) → Holds slots up place n → IfSome (find i n) (HasContent slots i)
-  Holds-find slots up place i (element id name attributes kids) h =
+  pub Holds-find : (slots : List (Option Slot)) (up : Option ℕ) (index i : ℕ) (n : Node) → Holds slots up index n → IfSome (find i n) (HasContent slots i)
+  Holds-find slots up index i (element id name attributes kids) h =
       IfSome-if (HasContent slots i) (i == id) (Some (element id name attributes kids)) (find_in i kids)
-      (λ t. HasContent-slot slots i id up place (element id name attributes kids) (eqb-true i id t) h.0)
+      (λ t. HasContent-slot slots i id up index (element id name attributes kids) (eqb-true i id t) h.0)
       (HoldsAll-find slots id 0 i kids h.1)
-  Holds-find slots up place i (text id cs) h =
+  Holds-find slots up index i (text id cs) h =
       IfSome-if (HasContent slots i) (i == id) (Some (text id cs)) None
-      (λ t. HasContent-slot slots i id up place (text id cs) (eqb-true i id t) h) tt
+      (λ t. HasContent-slot slots i id up index (text id cs) (eqb-true i id t) h) tt
 
-  HoldsAll-find : (slots : List (Option Slot)) (up place i : ℕ) (ns : Nodes) → HoldsAll slots up place ns → IfSome (find_in i ns) (HasContent slots i)
-  HoldsAll-find slots up place i no_nodes h = tt
-  HoldsAll-find slots up place i (node n ns) h =
-      IfSome-or_else (HasContent slots i) (find i n) (find_in i ns) (Holds-find slots (Some up) place i n h.0) (HoldsAll-find slots up (suc place) i ns h.1)
+  HoldsAll-find : (slots : List (Option Slot)) (up index i : ℕ) (ns : Nodes) → HoldsAll slots up index ns → IfSome (find_in i ns) (HasContent slots i)
+  HoldsAll-find slots up index i no_nodes h = tt
+  HoldsAll-find slots up index i (node n ns) h =
+      IfSome-or_else (HasContent slots i) (find i n) (find_in i ns) (Holds-find slots (Some up) index i n h.0) (HoldsAll-find slots up (suc index) i ns h.1)
 
 -- the top node's slot
-pub Holds-top : (slots : List (Option Slot)) (up : Option ℕ) (place : ℕ) (n : Node) → Holds slots up place n → slot_at slots (id_of n) ≡ Some (slot_of up place n)
-Holds-top slots up place (element id name attributes kids) h = h.0
-Holds-top slots up place (text id cs) h = h
+pub Holds-top : (slots : List (Option Slot)) (up : Option ℕ) (index : ℕ) (n : Node) → Holds slots up index n → slot_at slots (id_of n) ≡ Some (slot_of up index n)
+Holds-top slots up index (element id name attributes kids) h = h.0
+Holds-top slots up index (text id cs) h = h
 
 -- ---- children
 
--- the slot with this number names this parent and its first place in this list, which begins at a place
+-- the slot with this number names this parent and its first index in this list, which begins at an index
 pub record IsKid (slots : List (Option Slot)) (i up from : ℕ) (xs : List ℕ) : Type 0 where
   pub at : ℕ
   pub content : Content
-  pub slot : slot_at slots i ≡ Some (record { parent = Some up; place = from + at; content = content })
+  pub slot : slot_at slots i ≡ Some (record { parent = Some up; index = from + at; content = content })
   pub here : slice_get xs at ≡ Some i
   pub after : after i xs ≡ slice_get xs (suc at)
   pub before : (last : Option ℕ) → before i last xs ≡ preceding last xs at
@@ -63,7 +63,7 @@ IsKid-here : (slots : List (Option Slot)) (i up from y : ℕ) (ys : List ℕ) (n
 IsKid-here slots i up from y ys n t h = record {
   at = 0;
   content = content_of n;
-  slot = ap (slot_at slots) (eqb-true i y t) ∙ (h ∙ ap (λ p. Some (record { parent = Some up; place = p; content = content_of n })) (omega arith));
+  slot = ap (slot_at slots) (eqb-true i y t) ∙ (h ∙ ap (λ p. Some (record { parent = Some up; index = p; content = content_of n })) (omega arith));
   here = ap Some (sym (eqb-true i y t));
   after = rw t (first-slice_get ys);
   before = λ last. rw t refl;
@@ -73,7 +73,7 @@ IsKid-there : (slots : List (Option Slot)) (i up from y : ℕ) (ys : List ℕ) �
 IsKid-there slots i up from y ys f k = record {
   at = suc k.at;
   content = k.content;
-  slot = k.slot ∙ ap (λ p. Some (record { parent = Some up; place = p; content = k.content })) (omega arith);
+  slot = k.slot ∙ ap (λ p. Some (record { parent = Some up; index = p; content = k.content })) (omega arith);
   here = k.here;
   after = rw f k.after;
   before = λ last. rw f (k.before (Some y) ∙ preceding-cons last y ys k.at);
@@ -92,17 +92,17 @@ pub record IsChild (slots : List (Option Slot)) (i : ℕ) (p : Node) : Type 0 wh
   pub kids : kids_at slots (id_of p) ≡ ids_of (kids_of p)
 
 mutual
-  pub Holds-parent : (slots : List (Option Slot)) (up : Option ℕ) (place i : ℕ) (n : Node) → Holds slots up place n → IfSome (parent_in i n) (IsChild slots i)
-  Holds-parent slots up place i (element id name attributes kids) h =
+  pub Holds-parent : (slots : List (Option Slot)) (up : Option ℕ) (index i : ℕ) (n : Node) → Holds slots up index n → IfSome (parent_in i n) (IsChild slots i)
+  Holds-parent slots up index i (element id name attributes kids) h =
       IfSome-if (IsChild slots i) (is_among i (ids_of kids)) (Some (element id name attributes kids)) (parent_below i kids)
       (λ t. record { kid = HoldsAll-kid slots i id 0 kids h.1 t; kids = rw h.0 refl })
       (HoldsAll-parent slots id 0 i kids h.1)
-  Holds-parent slots up place i (text id cs) h = tt
+  Holds-parent slots up index i (text id cs) h = tt
 
-  HoldsAll-parent : (slots : List (Option Slot)) (up place i : ℕ) (ns : Nodes) → HoldsAll slots up place ns → IfSome (parent_below i ns) (IsChild slots i)
-  HoldsAll-parent slots up place i no_nodes h = tt
-  HoldsAll-parent slots up place i (node n ns) h =
-      IfSome-or_else (IsChild slots i) (parent_in i n) (parent_below i ns) (Holds-parent slots (Some up) place i n h.0) (HoldsAll-parent slots up (suc place) i ns h.1)
+  HoldsAll-parent : (slots : List (Option Slot)) (up index i : ℕ) (ns : Nodes) → HoldsAll slots up index ns → IfSome (parent_below i ns) (IsChild slots i)
+  HoldsAll-parent slots up index i no_nodes h = tt
+  HoldsAll-parent slots up index i (node n ns) h =
+      IfSome-or_else (IsChild slots i) (parent_in i n) (parent_below i ns) (Holds-parent slots (Some up) index i n h.0) (HoldsAll-parent slots up (suc index) i ns h.1)
 
 -- ---- what is found is the top node or has a parent
 
@@ -124,39 +124,39 @@ mutual
 
 -- ---- what is found, and what is a parent, is held
 
--- the slots hold this node, with some parent and at some place
+-- the slots hold this node, with some parent and at some index
 abbrev pub IsHeld : List (Option Slot) → Node → Type 0
-IsHeld slots n = (up : Option ℕ) × (place : ℕ) × Holds slots up place n
+IsHeld slots n = (up : Option ℕ) × (index : ℕ) × Holds slots up index n
 
 mutual
-  pub find-held : (slots : List (Option Slot)) (up : Option ℕ) (place i : ℕ) (n p : Node) → Holds slots up place n → find i n ≡ Some p → IsHeld slots p
-  find-held slots up place i (element id name attributes kids) p h f = elim (if-found (i == id) (element id name attributes kids) p (find_in i kids) f) [
-    | inl k ↦ subst (IsHeld slots) (same_Some (element id name attributes kids) p k.1) (up, place, h)
+  pub find-held : (slots : List (Option Slot)) (up : Option ℕ) (index i : ℕ) (n p : Node) → Holds slots up index n → find i n ≡ Some p → IsHeld slots p
+  find-held slots up index i (element id name attributes kids) p h f = elim (if-found (i == id) (element id name attributes kids) p (find_in i kids) f) [
+    | inl k ↦ subst (IsHeld slots) (same_Some (element id name attributes kids) p k.1) (up, index, h)
     | inr k ↦ find_in-held slots id 0 i kids p h.1 k.1
   ]
-  find-held slots up place i (text id cs) p h f = elim (if-found (i == id) (text id cs) p None f) [
-    | inl k ↦ subst (IsHeld slots) (same_Some (text id cs) p k.1) (up, place, h)
+  find-held slots up index i (text id cs) p h f = elim (if-found (i == id) (text id cs) p None f) [
+    | inl k ↦ subst (IsHeld slots) (same_Some (text id cs) p k.1) (up, index, h)
     | inr k ↦ absurd (none-some p k.1)
   ]
 
-  pub find_in-held : (slots : List (Option Slot)) (up place i : ℕ) (ns : Nodes) (p : Node) → HoldsAll slots up place ns → find_in i ns ≡ Some p → IsHeld slots p
-  find_in-held slots up place i no_nodes p h f = absurd (none-some p f)
-  find_in-held slots up place i (node n ns) p h f = elim (or-found (find i n) (find_in i ns) p f) [
-    | inl k ↦ find-held slots (Some up) place i n p h.0 k
-    | inr k ↦ find_in-held slots up (suc place) i ns p h.1 k.1
+  pub find_in-held : (slots : List (Option Slot)) (up index i : ℕ) (ns : Nodes) (p : Node) → HoldsAll slots up index ns → find_in i ns ≡ Some p → IsHeld slots p
+  find_in-held slots up index i no_nodes p h f = absurd (none-some p f)
+  find_in-held slots up index i (node n ns) p h f = elim (or-found (find i n) (find_in i ns) p f) [
+    | inl k ↦ find-held slots (Some up) index i n p h.0 k
+    | inr k ↦ find_in-held slots up (suc index) i ns p h.1 k.1
   ]
 
 mutual
-  pub parent-held_at : (slots : List (Option Slot)) (up : Option ℕ) (place i : ℕ) (n p : Node) → Holds slots up place n → parent_in i n ≡ Some p → IsHeld slots p
-  parent-held_at slots up place i (element id name attributes kids) p h f = elim (if-found (is_among i (ids_of kids)) (element id name attributes kids) p (parent_below i kids) f) [
-    | inl k ↦ subst (IsHeld slots) (same_Some (element id name attributes kids) p k.1) (up, place, h)
+  pub parent-held_at : (slots : List (Option Slot)) (up : Option ℕ) (index i : ℕ) (n p : Node) → Holds slots up index n → parent_in i n ≡ Some p → IsHeld slots p
+  parent-held_at slots up index i (element id name attributes kids) p h f = elim (if-found (is_among i (ids_of kids)) (element id name attributes kids) p (parent_below i kids) f) [
+    | inl k ↦ subst (IsHeld slots) (same_Some (element id name attributes kids) p k.1) (up, index, h)
     | inr k ↦ parent_below-held_at slots id 0 i kids p h.1 k.1
   ]
-  parent-held_at slots up place i (text id cs) p h f = absurd (none-some p f)
+  parent-held_at slots up index i (text id cs) p h f = absurd (none-some p f)
 
-  pub parent_below-held_at : (slots : List (Option Slot)) (up place i : ℕ) (ns : Nodes) (p : Node) → HoldsAll slots up place ns → parent_below i ns ≡ Some p → IsHeld slots p
-  parent_below-held_at slots up place i no_nodes p h f = absurd (none-some p f)
-  parent_below-held_at slots up place i (node n ns) p h f = elim (or-found (parent_in i n) (parent_below i ns) p f) [
-    | inl k ↦ parent-held_at slots (Some up) place i n p h.0 k
-    | inr k ↦ parent_below-held_at slots up (suc place) i ns p h.1 k.1
+  pub parent_below-held_at : (slots : List (Option Slot)) (up index i : ℕ) (ns : Nodes) (p : Node) → HoldsAll slots up index ns → parent_below i ns ≡ Some p → IsHeld slots p
+  parent_below-held_at slots up index i no_nodes p h f = absurd (none-some p f)
+  parent_below-held_at slots up index i (node n ns) p h f = elim (or-found (parent_in i n) (parent_below i ns) p f) [
+    | inl k ↦ parent-held_at slots (Some up) index i n p h.0 k
+    | inr k ↦ parent_below-held_at slots up (suc index) i ns p h.1 k.1
   ]

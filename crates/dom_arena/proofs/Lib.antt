@@ -6,7 +6,7 @@ pub mod Loaded
 pub mod Found
 pub mod Writes
 pub mod Same
-pub mod Placed
+pub mod Indexed
 pub mod Cleared
 pub mod Counted
 pub mod Grown

@@ -16,18 +16,18 @@ use Rattle.page_model.proofs.Numbered.{distinct-numbered, within-numbered, node_
 -- ---- a table that holds a tree reads as it
 
 mutual
-  pub Holds-below : (slots : List (Option Slot)) (up : Option ℕ) (place k : ℕ) (n : Node) → Holds slots up place n → height n ≤ k → below slots k (id_of n) ≡ n
-  Holds-below slots up place zero (element id name attributes kids) h l = absurd (omega arith)
-  Holds-below slots up place zero (text id cs) h l = absurd (omega arith)
-  Holds-below slots up place (suc k) (element id name attributes kids) h l =
+  pub Holds-below : (slots : List (Option Slot)) (up : Option ℕ) (index k : ℕ) (n : Node) → Holds slots up index n → height n ≤ k → below slots k (id_of n) ≡ n
+  Holds-below slots up index zero (element id name attributes kids) h l = absurd (omega arith)
+  Holds-below slots up index zero (text id cs) h l = absurd (omega arith)
+  Holds-below slots up index (suc k) (element id name attributes kids) h l =
       ap (node_of (below slots k) id) h.0 ∙ ap (element id name attributes) (HoldsAll-below slots id 0 k kids h.1 (omega arith))
-  Holds-below slots up place (suc k) (text id cs) h l = ap (node_of (below slots k) id) h
+  Holds-below slots up index (suc k) (text id cs) h l = ap (node_of (below slots k) id) h
 
-  pub HoldsAll-below : (slots : List (Option Slot)) (up place k : ℕ) (ns : Nodes) → HoldsAll slots up place ns → heights ns ≤ k → nodes_of (map (below slots k) (ids_of ns)) ≡ ns
-  HoldsAll-below slots up place k no_nodes h l = refl
-  HoldsAll-below slots up place k (node n ns) h l =
-      let first : below slots k (id_of n) ≡ n = Holds-below slots (Some up) place k n h.0 (omega arith) in
-      let rest : nodes_of (map (below slots k) (ids_of ns)) ≡ ns = HoldsAll-below slots up (suc place) k ns h.1 (omega arith) in
+  pub HoldsAll-below : (slots : List (Option Slot)) (up index k : ℕ) (ns : Nodes) → HoldsAll slots up index ns → heights ns ≤ k → nodes_of (map (below slots k) (ids_of ns)) ≡ ns
+  HoldsAll-below slots up index k no_nodes h l = refl
+  HoldsAll-below slots up index k (node n ns) h l =
+      let first : below slots k (id_of n) ≡ n = Holds-below slots (Some up) index k n h.0 (omega arith) in
+      let rest : nodes_of (map (below slots k) (ids_of ns)) ≡ ns = HoldsAll-below slots up (suc index) k ns h.1 (omega arith) in
       ap (λ m. node m (nodes_of (map (below slots k) (ids_of ns)))) first ∙ ap (node n) rest
 
 pub tree_in-held : (slots : List (Option Slot)) (n : Node) → Holds slots None 0 n → id_of n ≡ 0 → height n ≤ max_depth → tree_in slots ≡ n
@@ -42,27 +42,27 @@ slot_at-here (x ∷ xs) s back n e =
     ap (λ k. option_flatten (slice_get (x ∷ (xs ++ Some s ∷ back)) k)) (sym e) ∙ slot_at-here xs s back (length xs) refl
 
 mutual
-  pub Holds-rows : (front back : List (Option Slot)) (up : Option ℕ) (place n : ℕ) (t : Tree) → length front ≡ n → Holds (front ++ (rows up place (numbered n t) ++ back)) up place (numbered n t)
-  Holds-rows front back up place n (elem name attributes kids) e =
-      let s : Slot = slot_of up place (numbered n (elem name attributes kids)) in
+  pub Holds-rows : (front back : List (Option Slot)) (up : Option ℕ) (index n : ℕ) (t : Tree) → length front ≡ n → Holds (front ++ (rows up index (numbered n t) ++ back)) up index (numbered n t)
+  Holds-rows front back up index n (elem name attributes kids) e =
+      let s : Slot = slot_of up index (numbered n (elem name attributes kids)) in
       let more : List (Option Slot) = all_rows n 0 (all_numbered (suc n) kids) in
       let len : length (front ++ Some s ∷ []) ≡ suc n = length-append front (Some s ∷ []) ∙ omega arith in (
         slot_at-here front s (more ++ back) n e,
         subst (λ (slots : List (Option Slot)). HoldsAll slots n 0 (all_numbered (suc n) kids)) (append_assoc front (Some s ∷ []) (more ++ back))
             (HoldsAll-rows (front ++ Some s ∷ []) back n 0 (suc n) kids len),
       )
-  Holds-rows front back up place n (characters cs) e = slot_at-here front (slot_of up place (text n cs)) back n e
+  Holds-rows front back up index n (characters cs) e = slot_at-here front (slot_of up index (text n cs)) back n e
 
-  pub HoldsAll-rows : (front back : List (Option Slot)) (up place n : ℕ) (ts : Trees) → length front ≡ n → HoldsAll (front ++ (all_rows up place (all_numbered n ts) ++ back)) up place (all_numbered n ts)
-  HoldsAll-rows front back up place n no_trees e = tt
-  HoldsAll-rows front back up place n (tree t ts) e =
-      let row : List (Option Slot) = rows (Some up) place (numbered n t) in
-      let more : List (Option Slot) = all_rows up (suc place) (all_numbered (n + size t) ts) in
-      let len : length (front ++ row) ≡ n + size t = length-append front row ∙ (ap (λ k. length front + k) (length-rows (Some up) place n t) ∙ ap (λ k. k + size t) e) in (
-        subst (λ (slots : List (Option Slot)). Holds (front ++ slots) (Some up) place (numbered n t)) (sym (append_assoc row more back))
-            (Holds-rows front (more ++ back) (Some up) place n t e),
-        subst (λ (slots : List (Option Slot)). HoldsAll slots up (suc place) (all_numbered (n + size t) ts)) (append_assoc front row (more ++ back) ∙ ap (λ slots. front ++ slots) (sym (append_assoc row more back)))
-            (HoldsAll-rows (front ++ row) back up (suc place) (n + size t) ts len),
+  pub HoldsAll-rows : (front back : List (Option Slot)) (up index n : ℕ) (ts : Trees) → length front ≡ n → HoldsAll (front ++ (all_rows up index (all_numbered n ts) ++ back)) up index (all_numbered n ts)
+  HoldsAll-rows front back up index n no_trees e = tt
+  HoldsAll-rows front back up index n (tree t ts) e =
+      let row : List (Option Slot) = rows (Some up) index (numbered n t) in
+      let more : List (Option Slot) = all_rows up (suc index) (all_numbered (n + size t) ts) in
+      let len : length (front ++ row) ≡ n + size t = length-append front row ∙ (ap (λ k. length front + k) (length-rows (Some up) index n t) ∙ ap (λ k. k + size t) e) in (
+        subst (λ (slots : List (Option Slot)). Holds (front ++ slots) (Some up) index (numbered n t)) (sym (append_assoc row more back))
+            (Holds-rows front (more ++ back) (Some up) index n t e),
+        subst (λ (slots : List (Option Slot)). HoldsAll slots up (suc index) (all_numbered (n + size t) ts)) (append_assoc front row (more ++ back) ∙ ap (λ slots. front ++ slots) (sym (append_assoc row more back)))
+            (HoldsAll-rows (front ++ row) back up (suc index) (n + size t) ts len),
       )
 
 pub live-within : (slots : List (Option Slot)) (i : ℕ) → is_some (slot_at slots i) ≡ true → i < length slots

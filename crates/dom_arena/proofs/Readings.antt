@@ -93,7 +93,7 @@ table-parent slots root i t =
 
 next-parentless : (slots : List (Option Slot)) (s : Option Slot) → parent_in_slot s ≡ None → next_in slots s ≡ None
 next-parentless slots None e = refl
-next-parentless slots (Some s) e = ap (λ o. option_and_then (λ up. slice_get (kids_at slots up) (suc s.place)) o) e
+next-parentless slots (Some s) e = ap (λ o. option_and_then (λ up. slice_get (kids_at slots up) (suc s.index)) o) e
 
 next-cases : (slots : List (Option Slot)) (i : ℕ) (o : Option Node) → IfSome o (IsChild slots i) → (is_some o ≡ false → parent_in_slot (slot_at slots i) ≡ None)
     → next_in slots (slot_at slots i) ≡ option_and_then (λ p. after i (ids_of (kids_of p))) o
@@ -107,7 +107,7 @@ table-next slots root i t =
 
 prev-parentless : (slots : List (Option Slot)) (s : Option Slot) → parent_in_slot s ≡ None → prev_in slots s ≡ None
 prev-parentless slots None e = refl
-prev-parentless slots (Some s) e = ap (λ o. option_and_then (λ up. preceding None (kids_at slots up) s.place) o) e
+prev-parentless slots (Some s) e = ap (λ o. option_and_then (λ up. preceding None (kids_at slots up) s.index) o) e
 
 prev-cases : (slots : List (Option Slot)) (i : ℕ) (o : Option Node) → IfSome o (IsChild slots i) → (is_some o ≡ false → parent_in_slot (slot_at slots i) ≡ None)
     → prev_in slots (slot_at slots i) ≡ option_and_then (λ p. before i None (ids_of (kids_of p))) o

@@ -13,11 +13,11 @@ use Rattle.page_model.proofs.Levels.{find-height}
 use Rattle.page_model.proofs.Removed.{id_of-removed, name_of-removed, ids-removed, removed-part, height-removed}
 use Rattle.page_model.proofs.Spliced.{Spliced, AreApart, spliced-length, spliced-rest, spliced-among, rest-distinct, part-apart}
 use Rattle.dom_arena.specs.declared.slot.Slot.{Slot}
-use Rattle.dom_arena.specs.Table.{slot_at, slot_of, kids_of_slot, kids_at, spot_in, parent_in_slot, Holds, IsTable, tree_in}
+use Rattle.dom_arena.specs.Table.{slot_at, slot_of, kids_of_slot, kids_at, parent_and_index_in, parent_in_slot, Holds, IsTable, tree_in}
 use Rattle.dom_arena.specs.Writes.{without_kid, changed, detached, cleared, Clears}
 use Rattle.dom_arena.proofs.Writes.{slot_at-changed_other}
 use Rattle.dom_arena.proofs.Same.{AreSame}
-use Rattle.dom_arena.proofs.Placed.{placed-other, length-placed, live-changed, live-placed}
+use Rattle.dom_arena.proofs.Indexed.{indexed-other, length-indexed, live-changed, live-indexed}
 use Rattle.dom_arena.proofs.Cleared.{cleared-other, cleared-here, length-cleared}
 use Rattle.dom_arena.proofs.Held.{IsHeld, IsChild, Holds-top, Holds-parent, find-held, parent-held_at, find-parent}
 use Rattle.dom_arena.proofs.Readings.{parentless}
@@ -38,18 +38,18 @@ pub record MayRemove (i up at : ℕ) (slots : List (Option Slot)) (root : Node) 
   pub stands : slice_get (ids_of (kids_of above)) at ≡ Some i
   pub kids : kids_at slots up ≡ ids_of (kids_of above)
 
-spot-of : (o : Option Slot) (s : Slot) (up : ℕ) → o ≡ Some s → s.parent ≡ Some up → spot_in o ≡ Some (up, s.place)
-spot-of o s up e p = ap spot_in e ∙ ap (λ q. option_map (λ u. (u, s.place)) q) p
+spot-of : (o : Option Slot) (s : Slot) (up : ℕ) → o ≡ Some s → s.parent ≡ Some up → parent_and_index_in o ≡ Some (up, s.index)
+spot-of o s up e p = ap parent_and_index_in e ∙ ap (λ q. option_map (λ u. (u, s.index)) q) p
 
-spot-none : (o : Option Slot) → parent_in_slot o ≡ None → spot_in o ≡ None
+spot-none : (o : Option Slot) → parent_in_slot o ≡ None → parent_and_index_in o ≡ None
 spot-none None e = refl
-spot-none (Some s) e = ap (λ q. option_map (λ u. (u, s.place)) q) e
+spot-none (Some s) e = ap (λ q. option_map (λ u. (u, s.index)) q) e
 
 may-cases : (slots : List (Option Slot)) (root x : Node) (i up at : ℕ) (o : Option Node) → o ≡ parent_in i root → IfSome o (IsChild slots i) → (is_some o ≡ false → parent_in_slot (slot_at slots i) ≡ None)
-    → find i root ≡ Some x → spot_in (slot_at slots i) ≡ Some (up, at) → MayRemove i up at slots root
+    → find i root ≡ Some x → parent_and_index_in (slot_at slots i) ≡ Some (up, at) → MayRemove i up at slots root
 may-cases slots root x i up at None e h k f s = absurd (none-some (up, at) (sym (spot-none (slot_at slots i) (k refl)) ∙ s))
 may-cases slots root x i up at (Some p) e h k f s =
-    let pair : (id_of p, 0 + h.kid.at) ≡ (up, at) = same_Some (id_of p, 0 + h.kid.at) (up, at) (sym (spot-of (slot_at slots i) (record { parent = Some (id_of p); place = 0 + h.kid.at; content = h.kid.content }) (id_of p) h.kid.slot refl) ∙ s) in
+    let pair : (id_of p, 0 + h.kid.at) ≡ (up, at) = same_Some (id_of p, 0 + h.kid.at) (up, at) (sym (spot-of (slot_at slots i) (record { parent = Some (id_of p); index = 0 + h.kid.at; content = h.kid.content }) (id_of p) h.kid.slot refl) ∙ s) in
     let up_is : up ≡ id_of p = sym (ap (λ (q : ℕ × ℕ). q.0) pair) in
     let at_is : h.kid.at ≡ at = omega arith ∙ ap (λ (q : ℕ × ℕ). q.1) pair in
     record {
@@ -62,7 +62,7 @@ may-cases slots root x i up at (Some p) e h k f s =
       kids = ap (kids_at slots) up_is ∙ h.kids;
     }
 
-pub may-remove : (slots : List (Option Slot)) (root : Node) (i up at : ℕ) → IsTable slots root → is_some (find i root) ≡ true → spot_in (slot_at slots i) ≡ Some (up, at) → MayRemove i up at slots root
+pub may-remove : (slots : List (Option Slot)) (root : Node) (i up at : ℕ) → IsTable slots root → is_some (find i root) ≡ true → parent_and_index_in (slot_at slots i) ≡ Some (up, at) → MayRemove i up at slots root
 may-remove slots root i up at table f s =
     let found : (x : Node) × (find i root ≡ Some x) = some-is (find i root) f in
     may-cases slots root found.0 i up at (parent_in i root) refl (Holds-parent slots None 0 i root table.held) (parentless slots root i table) found.1 s
@@ -79,20 +79,20 @@ not-some (Some x) h = absurd (h refl)
 child-of : (slots : List (Option Slot)) (i : ℕ) (o : Option Node) (p : Node) → o ≡ Some p → IfSome o (IsChild slots i) → IsChild slots i p
 child-of slots i o p e h = subst (λ (q : Option Node). IfSome q (IsChild slots i)) e h
 
-spotted : (slots : List (Option Slot)) (i : ℕ) (p : Node) → IsChild slots i p → is_some (spot_in (slot_at slots i)) ≡ true
-spotted slots i p c = ap (λ o. is_some (spot_in o)) c.kid.slot
+spotted : (slots : List (Option Slot)) (i : ℕ) (p : Node) → IsChild slots i p → is_some (parent_and_index_in (slot_at slots i)) ≡ true
+spotted slots i p c = ap (λ o. is_some (parent_and_index_in o)) c.kid.slot
 
-pub spotless-root : (slots : List (Option Slot)) (root : Node) (i : ℕ) → IsTable slots root → is_some (find i root) ≡ true → spot_in (slot_at slots i) ≡ None → (i == id_of root) ≡ true
+pub spotless-root : (slots : List (Option Slot)) (root : Node) (i : ℕ) → IsTable slots root → is_some (find i root) ≡ true → parent_and_index_in (slot_at slots i) ≡ None → (i == id_of root) ≡ true
 spotless-root slots root i table f s =
     or-left (i == id_of root) (is_some (parent_in i root)) (sym (find-parent i root) ∙ f)
     (not-some (parent_in i root) (λ h. let p : (n : Node) × (parent_in i root ≡ Some n) = some-is (parent_in i root) h in
     false≢true (ap is_some (sym s) ∙ spotted slots i p.0 (child-of slots i (parent_in i root) p.0 p.1 (Holds-parent slots None 0 i root table.held)))))
 
-pub spotted-other : (slots : List (Option Slot)) (root : Node) (i up at : ℕ) → IsTable slots root → spot_in (slot_at slots i) ≡ Some (up, at) → (i == id_of root) ≡ false
+pub spotted-other : (slots : List (Option Slot)) (root : Node) (i up at : ℕ) → IsTable slots root → parent_and_index_in (slot_at slots i) ≡ Some (up, at) → (i == id_of root) ≡ false
 spotted-other slots root i up at table s = elim (cases_Bool (i == id_of root)) [
   | inl t ↦
       let top : slot_at slots i ≡ Some (slot_of None 0 root) = ap (slot_at slots) (eqb-true i (id_of root) t) ∙ Holds-top slots None 0 root table.held in
-      absurd (none-some (up, at) (sym (ap spot_in top) ∙ s))
+      absurd (none-some (up, at) (sym (ap parent_and_index_in top) ∙ s))
   | inr f ↦ f
 ]
 
@@ -106,13 +106,13 @@ pub length-reduced : (up at : ℕ) (x : Node) (slots : List (Option Slot)) → l
 length-reduced up at x slots =
     let cut : List (Option Slot) = cleared (ids x) slots in
     let next : List (Option Slot) = changed (without_kid at) up cut in
-    length-placed at (drop at (kids_at next up)) next ∙ (length-set cut up (option_map (without_kid at) (slot_at cut up)) ∙ length-cleared (ids x) slots)
+    length-indexed at (drop at (kids_at next up)) next ∙ (length-set cut up (option_map (without_kid at) (slot_at cut up)) ∙ length-cleared (ids x) slots)
 
 live-reduced : (up at : ℕ) (x : Node) (slots : List (Option Slot)) (j : ℕ) → is_some (slot_at (reduced up at x slots) j) ≡ is_some (slot_at (cleared (ids x) slots) j)
 live-reduced up at x slots j =
     let cut : List (Option Slot) = cleared (ids x) slots in
     let next : List (Option Slot) = changed (without_kid at) up cut in
-    live-placed at (drop at (kids_at next up)) next j ∙ live-changed (without_kid at) up j cut
+    live-indexed at (drop at (kids_at next up)) next j ∙ live-changed (without_kid at) up j cut
 
 -- a child is not its parent
 kid-not_top : (i : ℕ) (p : Node) → AreDistinct (ids p) → IsAmong i (ids_of (kids_of p)) → (i == id_of p) ≡ false
@@ -142,15 +142,15 @@ held-reduced slots root i up at table may =
     let own : AreDistinct (ids p) = parent-distinct i root p may.parent table.distinct in
     let apart : AreApart (ids x) (ids (removed i p)) = apart-below i up at slots root table.distinct may in
     let kept : AreSame slots cut (ids (removed i p)) = λ j a. cleared-other (ids x) slots j (λ b. apart j b a) in
-    let here : (up' : Option ℕ) (place : ℕ) → Holds slots up' place p → Holds (reduced up at x slots) up' place (removed i p) = λ up' place h.
-    subst (λ (q : ℕ). Holds (detached q at cut) up' place (removed i p)) (sym may.up_is) (shrunk-held slots cut up' place at i p h own may.stands kept) in
+    let here : (up' : Option ℕ) (index : ℕ) → Holds slots up' index p → Holds (reduced up at x slots) up' index (removed i p) = λ up' index h.
+    subst (λ (q : ℕ). Holds (detached q at cut) up' index (removed i p)) (sym may.up_is) (shrunk-held slots cut up' index at i p h own may.stands kept) in
     let at_parent : IsHeld slots p = parent-held_at slots None 0 i root p table.held may.parent in
     let list : drop at (kids_at next up) ≡ drop at (ids_of (kids_of (removed i p))) =
     subst (λ (q : ℕ). drop at (kids_at (changed (without_kid at) q cut) q) ≡ drop at (ids_of (kids_of (removed i p)))) (sym may.up_is)
     (detached-list slots cut at_parent.0 at_parent.1 at i p at_parent.2 own may.stands (kept (id_of p) (top-stays i p))) in
     let below : (j : ℕ) → IsAmong j (ids x) → IsAmong j (ids p) = λ j. find-part i p x j (sym (parent-find i root p table.distinct may.parent) ∙ may.found) in
     let same : (j : ℕ) → IsAmong j (ids root) → (IsAmong j (ids p) → ⊥) → slot_at (reduced up at x slots) j ≡ slot_at slots j = λ j a out.
-    placed-other at (drop at (kids_at next up)) next j
+    indexed-other at (drop at (kids_at next up)) next j
     (λ b. out (removed-part i p j (kid-below j (removed i p) (among-drop j at (ids_of (kids_of (removed i p))) (subst (IsAmong j) list b)))))
     ∙ (slot_at-changed_other (without_kid at) up j cut (λ e. out (subst (λ (k : ℕ). IsAmong k (ids p)) (sym (e ∙ may.up_is)) (among-top p)))
     ∙ cleared-other (ids x) slots j (λ b. out (below j b))) in
@@ -202,7 +202,7 @@ count-reduced slots root i up at table ne may =
 
 -- the node that goes is held as a node is that can be cleared
 pub clear-spot : (slots now cut : List (Option Slot)) (root : Node) (i up at live live' : ℕ) → now ≡ slots → IsTable slots root → (may : MayRemove i up at slots root)
-    → ((up' : Option ℕ) (place : ℕ) (n : Node) → Holds now up' place n → id_of n ≡ i → height n ≤ max_depth → AreDistinct (ids n) → Clears now cut live live' (ids n))
+    → ((up' : Option ℕ) (index : ℕ) (n : Node) → Holds now up' index n → id_of n ≡ i → height n ≤ max_depth → AreDistinct (ids n) → Clears now cut live live' (ids n))
     → Clears slots cut live live' (ids may.node)
 clear-spot slots now cut root i up at live live' is table may clear =
     let held : IsHeld slots may.node = find-held slots None 0 i root may.node table.held may.found in
@@ -222,10 +222,10 @@ detachable slots cut root i up at table may is =
 
 -- a live node whose slot names a parent can go
 pub may-remove_here : (slots read : List (Option Slot)) (d : Document) (i up at : ℕ) (o : Option (ℕ × ℕ)) → IsTable slots (tree_in slots) → ◌≡◌ {A = Document} (record { root = tree_in slots; next_id = length slots }) d
-    → is_some (find i d.root) ≡ true → read ≡ slots → o ≡ spot_in (slot_at read i) → o ≡ Some (up, at) → (spot_in (slot_at slots i) ≡ Some (up, at)) × MayRemove i up at slots (tree_in slots)
+    → is_some (find i d.root) ≡ true → read ≡ slots → o ≡ parent_and_index_in (slot_at read i) → o ≡ Some (up, at) → (parent_and_index_in (slot_at slots i) ≡ Some (up, at)) × MayRemove i up at slots (tree_in slots)
 may-remove_here slots read d i up at o table view live is spot some =
     let found : is_some (find i (tree_in slots)) ≡ true = subst (λ (e : Document). is_some (find i e.root) ≡ true) (sym view) live in
-    let named : spot_in (slot_at slots i) ≡ Some (up, at) = sym (spot ∙ ap (λ s. spot_in (slot_at s i)) is) ∙ some in (named, may-remove slots (tree_in slots) i up at table found named)
+    let named : parent_and_index_in (slot_at slots i) ≡ Some (up, at) = sym (spot ∙ ap (λ s. parent_and_index_in (slot_at s i)) is) ∙ some in (named, may-remove slots (tree_in slots) i up at table found named)
 
 -- the fields of the document after a remove
 pub record IsReduced (i : ℕ) (slots slots' : List (Option Slot)) (count : ℕ) : Type 0 where
@@ -234,7 +234,7 @@ pub record IsReduced (i : ℕ) (slots slots' : List (Option Slot)) (count : ℕ)
   pub tree : tree_in slots' ≡ removed i (tree_in slots)
   pub long : length slots' ≡ length slots
 
-pub is_reduced : (slots cut slots' : List (Option Slot)) (i up at live live' : ℕ) → IsTable slots (tree_in slots) → live ≡ node_count (tree_in slots) → spot_in (slot_at slots i) ≡ Some (up, at)
+pub is_reduced : (slots cut slots' : List (Option Slot)) (i up at live live' : ℕ) → IsTable slots (tree_in slots) → live ≡ node_count (tree_in slots) → parent_and_index_in (slot_at slots i) ≡ Some (up, at)
     → (may : MayRemove i up at slots (tree_in slots)) → Clears slots cut live live' (ids may.node) → slots' ≡ detached up at cut → IsReduced i slots slots' live'
 is_reduced slots cut slots' i up at live live' table count spot may did is =
     let root : Node = tree_in slots in

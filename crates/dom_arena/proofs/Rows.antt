@@ -11,16 +11,16 @@ use Rattle.dom_arena.specs.Shape.{shape}
 use Rattle.dom_arena.specs.Rows.{rows, all_rows, IsLonger}
 
 mutual
-  pub length-rows : (up : Option ℕ) (place n : ℕ) (t : model.Tree) → length (rows up place (numbered n t)) ≡ size t
-  length-rows up place n (elem name attributes kids) = ap suc (length-all_rows n 0 (suc n) kids)
-  length-rows up place n (characters cs) = refl
+  pub length-rows : (up : Option ℕ) (index n : ℕ) (t : model.Tree) → length (rows up index (numbered n t)) ≡ size t
+  length-rows up index n (elem name attributes kids) = ap suc (length-all_rows n 0 (suc n) kids)
+  length-rows up index n (characters cs) = refl
 
-  pub length-all_rows : (up place n : ℕ) (ts : Trees) → length (all_rows up place (all_numbered n ts)) ≡ sizes ts
-  length-all_rows up place n no_trees = refl
-  length-all_rows up place n (tree t ts) =
-      length-append (rows (Some up) place (numbered n t)) (all_rows up (suc place) (all_numbered (n + size t) ts))
-      ∙ (ap (λ k. k + length (all_rows up (suc place) (all_numbered (n + size t) ts))) (length-rows (Some up) place n t)
-      ∙ ap (λ k. size t + k) (length-all_rows up (suc place) (n + size t) ts))
+  pub length-all_rows : (up index n : ℕ) (ts : Trees) → length (all_rows up index (all_numbered n ts)) ≡ sizes ts
+  length-all_rows up index n no_trees = refl
+  length-all_rows up index n (tree t ts) =
+      length-append (rows (Some up) index (numbered n t)) (all_rows up (suc index) (all_numbered (n + size t) ts))
+      ∙ (ap (λ k. k + length (all_rows up (suc index) (all_numbered (n + size t) ts))) (length-rows (Some up) index n t)
+      ∙ ap (λ k. size t + k) (length-all_rows up (suc index) (n + size t) ts))
 
 pub id_of-numbered : (n : ℕ) (t : model.Tree) → id_of (numbered n t) ≡ n
 id_of-numbered n (elem name attributes kids) = refl
@@ -37,20 +37,20 @@ pub rest-more : (kids : List Tree) (i : ℕ) (k : Tree) → i < length kids → 
     → trees_of (map shape (drop i kids)) ≡ tree (shape k) (trees_of (map shape (drop (i + 1) kids)))
 rest-more kids i k h is = rw (drop-cons kids i k, ← is, add-one) refl
 
-pub length-more : (slots slots' : List (Option Slot)) (up : Option ℕ) (place : ℕ) (t : model.Tree) → slots' ≡ slots ++ rows up place (numbered (length slots) t) → length slots' ≡ length slots + size t
-length-more slots slots' up place t e =
-    ap length e ∙ (length-append slots (rows up place (numbered (length slots) t)) ∙ ap (λ k. length slots + k) (length-rows up place (length slots) t))
+pub length-more : (slots slots' : List (Option Slot)) (up : Option ℕ) (index : ℕ) (t : model.Tree) → slots' ≡ slots ++ rows up index (numbered (length slots) t) → length slots' ≡ length slots + size t
+length-more slots slots' up index t e =
+    ap length e ∙ (length-append slots (rows up index (numbered (length slots) t)) ∙ ap (λ k. length slots + k) (length-rows up index (length slots) t))
 
 pub copied-more : (slots slots' : List (Option Slot)) (parent i : ℕ) (t : model.Tree) (ts : Trees) → slots' ≡ slots ++ rows (Some parent) i (numbered (length slots) t)
     → slots ++ all_rows parent i (all_numbered (length slots) (tree t ts)) ≡ slots' ++ all_rows parent (i + 1) (all_numbered (length slots') ts)
 copied-more slots slots' parent i t ts e =
     let n : length slots' ≡ length slots + size t = length-more slots slots' (Some parent) i t e in
-    let place : i + 1 ≡ suc i = omega arith in
+    let index : i + 1 ≡ suc i = omega arith in
     let row : List (Option Slot) = rows (Some parent) i (numbered (length slots) t) in
     sym (append_assoc slots row (all_rows parent (suc i) (all_numbered (length slots + size t) ts)))
     ∙ (ap (λ s. s ++ all_rows parent (suc i) (all_numbered (length slots + size t) ts)) (sym e)
     ∙ (ap (λ k. slots' ++ all_rows parent (suc i) (all_numbered k ts)) (sym n)
-    ∙ ap (λ k. slots' ++ all_rows parent k (all_numbered (length slots') ts)) (sym place)))
+    ∙ ap (λ k. slots' ++ all_rows parent k (all_numbered (length slots') ts)) (sym index)))
 
 pub numbers-more : (slots slots' : List (Option Slot)) (numbers numbers' : List ℕ) (parent i id : ℕ) (t : model.Tree) (ts : Trees)
     → slots' ≡ slots ++ rows (Some parent) i (numbered (length slots) t) → id ≡ length slots → numbers' ≡ numbers ++ id ∷ []
@@ -64,19 +64,19 @@ numbers-more slots slots' numbers numbers' parent i id t ts e is pushed =
 
 -- ---- an element whose slot is filled after its children
 
-pub element-copied : (old a b d : List (Option Slot)) (up : Option ℕ) (place id : ℕ) (name : Text) (attributes : List Attribute) (numbers : List ℕ) (kids : Trees)
+pub element-copied : (old a b d : List (Option Slot)) (up : Option ℕ) (index id : ℕ) (name : Text) (attributes : List Attribute) (numbers : List ℕ) (kids : Trees)
     → id ≡ length old → a ≡ old ++ None ∷ [] → b ≡ a ++ all_rows id 0 (all_numbered (length a) kids) → numbers ≡ ids_of (all_numbered (length a) kids)
-    → d ≡ slice_set b id (Some (record { parent = up; place = place; content = Element name attributes numbers }))
-    → d ≡ old ++ rows up place (numbered (length old) (elem name attributes kids))
-element-copied old a b d up place id name attributes numbers kids is pushed all ks set =
+    → d ≡ slice_set b id (Some (record { parent = up; index = index; content = Element name attributes numbers }))
+    → d ≡ old ++ rows up index (numbered (length old) (elem name attributes kids))
+element-copied old a b d up index id name attributes numbers kids is pushed all ks set =
     let n : length a ≡ suc (length old) = ap length pushed ∙ (length-append old (None ∷ []) ∙ omega arith) in
     let rest : List (Option Slot) = all_rows (length old) 0 (all_numbered (suc (length old)) kids) in
     let b_is : b ≡ old ++ None ∷ rest =
     all ∙ (ap (λ k. a ++ all_rows k 0 (all_numbered (length a) kids)) is ∙ (ap (λ k. a ++ all_rows (length old) 0 (all_numbered k kids)) n
     ∙ (ap (λ s. s ++ rest) pushed ∙ append_assoc old (None ∷ []) rest))) in
-    let slot : Option Slot = Some (record { parent = up; place = place; content = Element name attributes numbers }) in
+    let slot : Option Slot = Some (record { parent = up; index = index; content = Element name attributes numbers }) in
     set ∙ (ap (λ s. slice_set s id slot) b_is ∙ (set_at old None rest slot id (sym is)
-    ∙ ap (λ k. old ++ Some (record { parent = up; place = place; content = Element name attributes k }) ∷ rest) (ks ∙ ap (λ k. ids_of (all_numbered k kids)) n)))
+    ∙ ap (λ k. old ++ Some (record { parent = up; index = index; content = Element name attributes k }) ∷ rest) (ks ∙ ap (λ k. ids_of (all_numbered k kids)) n)))
 
 -- ---- tables that grow
 

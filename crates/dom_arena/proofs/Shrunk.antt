@@ -11,10 +11,10 @@ use Rattle.page_model.proofs.Removed.{id_of-removed, removed-absent, all_removed
 use Rattle.dom_arena.specs.declared.slot.Slot.{Slot}
 use Rattle.dom_arena.specs.declared.slot.Content.TheVariants.{Element}
 use Rattle.dom_arena.specs.Table.{slot_at, slot_of, kids_of_slot, kids_at, Holds, HoldsAll}
-use Rattle.dom_arena.specs.Writes.{without_kid, changed, placed, detached}
+use Rattle.dom_arena.specs.Writes.{without_kid, changed, indexed, detached}
 use Rattle.dom_arena.proofs.Writes.{slot_at-changed, slot_at-changed_other}
 use Rattle.dom_arena.proofs.Same.{AreSame, Holds-same, HoldsAll-same}
-use Rattle.dom_arena.proofs.Placed.{HoldsAll-each, HoldsEach-same, HoldsAll-placed, placed-other}
+use Rattle.dom_arena.proofs.Indexed.{HoldsAll-each, HoldsEach-same, HoldsAll-indexed, indexed-other}
 use Rattle.dom_arena.proofs.Grown.{among-drop}
 
 -- ---- the children of the parent
@@ -46,57 +46,57 @@ ids_of-gone i (suc at) (node n ns) d g =
     ap ids_of (gone-later i n ns d (among-kids i ns (slice_get-among (ids_of ns) at i g)))
     ∙ ap (λ xs. id_of n ∷ xs) (ids_of-gone i at ns (distinct-right (ids n) (all_ids ns) d) g)
 
--- these nodes without one: those from it on have their places
-without-held : (old slots : List (Option Slot)) (up from at place i : ℕ) (ns : Nodes) (xs : List ℕ)
+-- these nodes without one: those from it on have their indices
+without-held : (old slots : List (Option Slot)) (up from at index i : ℕ) (ns : Nodes) (xs : List ℕ)
     → HoldsAll old up from ns → AreDistinct (all_ids ns) → slice_get (ids_of ns) at ≡ Some i → AreSame old slots (all_ids (all_removed i ns))
-    → place ≡ from + at → xs ≡ drop at (ids_of (all_removed i ns))
-    → HoldsAll (placed place xs slots) up from (all_removed i ns)
-without-held old slots up from at place i no_nodes xs h d g same p is = absurd (none-some i g)
-without-held old slots up from zero place i (node n ns) xs h d g same p is =
+    → index ≡ from + at → xs ≡ drop at (ids_of (all_removed i ns))
+    → HoldsAll (indexed index xs slots) up from (all_removed i ns)
+without-held old slots up from at index i no_nodes xs h d g same p is = absurd (none-some i g)
+without-held old slots up from zero index i (node n ns) xs h d g same p is =
     let gone : all_removed i (node n ns) ≡ ns = gone-first i n ns d (sym (same_Some (id_of n) i g)) in
     let kept : AreSame old slots (all_ids ns) = subst (λ (ms : Nodes). AreSame old slots (all_ids ms)) gone same in
-    let done : HoldsAll (placed from (ids_of ns) slots) up from ns =
-    HoldsAll-placed slots up from ns (HoldsEach-same old slots up ns kept (HoldsAll-each old up (suc from) ns h.1)) (distinct-right (ids n) (all_ids ns) d) in
-    let q : place ≡ from = omega (arith, p) in
+    let done : HoldsAll (indexed from (ids_of ns) slots) up from ns =
+    HoldsAll-indexed slots up from ns (HoldsEach-same old slots up ns kept (HoldsAll-each old up (suc from) ns h.1)) (distinct-right (ids n) (all_ids ns) d) in
+    let q : index ≡ from = omega (arith, p) in
     let list : xs ≡ ids_of ns = is ∙ ap ids_of gone in
-    subst (λ (ms : Nodes). HoldsAll (placed place xs slots) up from ms) (sym gone) (rw (q, list) done)
-without-held old slots up from (suc at) place i (node n ns) xs h d g same p is =
+    subst (λ (ms : Nodes). HoldsAll (indexed index xs slots) up from ms) (sym gone) (rw (q, list) done)
+without-held old slots up from (suc at) index i (node n ns) xs h d g same p is =
     let gone : all_removed i (node n ns) ≡ node n (all_removed i ns) = gone-later i n ns d (among-kids i ns (slice_get-among (ids_of ns) at i g)) in
     let kept : AreSame old slots (ids n ++ all_ids (all_removed i ns)) = subst (λ (ms : Nodes). AreSame old slots (all_ids ms)) gone same in
     let list : xs ≡ drop at (ids_of (all_removed i ns)) = is ∙ ap (λ ms. drop (suc at) (ids_of ms)) gone in
     let out : (j : ℕ) → IsAmong j (ids n) → IsAmong j xs → ⊥ = λ j a b.
     distinct-apart j (ids n) (all_ids ns) d a (all_removed-part i ns j (among-kids j (all_removed i ns) (among-drop j at (ids_of (all_removed i ns)) (subst (IsAmong j) list b)))) in
-    let first : Holds (placed place xs slots) (Some up) from n =
-    Holds-same old (placed place xs slots) (Some up) from n (λ j a. placed-other place xs slots j (out j a) ∙ kept j (among-left j (ids n) (all_ids (all_removed i ns)) a)) h.0 in
-    let rest : HoldsAll (placed place xs slots) up (suc from) (all_removed i ns) =
-    without-held old slots up (suc from) at place i ns xs h.1 (distinct-right (ids n) (all_ids ns) d) g (λ j a. kept j (among-right j (ids n) (all_ids (all_removed i ns)) a)) (omega (arith, p)) list in
-    subst (λ (ms : Nodes). HoldsAll (placed place xs slots) up from ms) (sym gone) (first, rest)
+    let first : Holds (indexed index xs slots) (Some up) from n =
+    Holds-same old (indexed index xs slots) (Some up) from n (λ j a. indexed-other index xs slots j (out j a) ∙ kept j (among-left j (ids n) (all_ids (all_removed i ns)) a)) h.0 in
+    let rest : HoldsAll (indexed index xs slots) up (suc from) (all_removed i ns) =
+    without-held old slots up (suc from) at index i ns xs h.1 (distinct-right (ids n) (all_ids ns) d) g (λ j a. kept j (among-right j (ids n) (all_ids (all_removed i ns)) a)) (omega (arith, p)) list in
+    subst (λ (ms : Nodes). HoldsAll (indexed index xs slots) up from ms) (sym gone) (first, rest)
 
 -- ---- the parent itself
 
--- the numbers that get their places
-pub detached-list : (old slots : List (Option Slot)) (up : Option ℕ) (place at i : ℕ) (p : Node) → Holds old up place p → AreDistinct (ids p) → slice_get (ids_of (kids_of p)) at ≡ Some i → slot_at slots (id_of p) ≡ slot_at old (id_of p)
+-- the numbers that get their indices
+pub detached-list : (old slots : List (Option Slot)) (up : Option ℕ) (index at i : ℕ) (p : Node) → Holds old up index p → AreDistinct (ids p) → slice_get (ids_of (kids_of p)) at ≡ Some i → slot_at slots (id_of p) ≡ slot_at old (id_of p)
     → drop at (kids_at (changed (without_kid at) (id_of p) slots) (id_of p)) ≡ drop at (ids_of (kids_of (removed i p)))
-detached-list old slots up place at i (text id cs) h d g same = absurd (none-some i g)
-detached-list old slots up place at i (element id name attributes kids) h d g same =
+detached-list old slots up index at i (text id cs) h d g same = absurd (none-some i g)
+detached-list old slots up index at i (element id name attributes kids) h d g same =
     ap (λ o. drop at (kids_of_slot o)) (slot_at-changed (without_kid at) id slots ∙ ap (option_map (without_kid at)) (same ∙ h.0))
     ∙ ap (drop at) (sym (ids_of-gone i at kids d.1 g))
 
 -- a parent without one of its children, where the slots of the others are as before
-pub shrunk-held : (old slots : List (Option Slot)) (up : Option ℕ) (place at i : ℕ) (p : Node) → Holds old up place p → AreDistinct (ids p) → slice_get (ids_of (kids_of p)) at ≡ Some i → AreSame old slots (ids (removed i p))
-    → Holds (detached (id_of p) at slots) up place (removed i p)
-shrunk-held old slots up place at i (text id cs) h d g same = absurd (none-some i g)
-shrunk-held old slots up place at i (element id name attributes kids) h d g same =
+pub shrunk-held : (old slots : List (Option Slot)) (up : Option ℕ) (index at i : ℕ) (p : Node) → Holds old up index p → AreDistinct (ids p) → slice_get (ids_of (kids_of p)) at ≡ Some i → AreSame old slots (ids (removed i p))
+    → Holds (detached (id_of p) at slots) up index (removed i p)
+shrunk-held old slots up index at i (text id cs) h d g same = absurd (none-some i g)
+shrunk-held old slots up index at i (element id name attributes kids) h d g same =
     let next : List (Option Slot) = changed (without_kid at) id slots in
-    let slot : slot_at next id ≡ Some (slot_of up place (element id name attributes (all_removed i kids))) =
+    let slot : slot_at next id ≡ Some (slot_of up index (element id name attributes (all_removed i kids))) =
     slot_at-changed (without_kid at) id slots
     ∙ (ap (option_map (without_kid at)) (same id (inl refl) ∙ h.0)
-    ∙ ap (λ ks. Some (record { parent = up; place = place; content = Element name attributes ks })) (sym (ids_of-gone i at kids d.1 g))) in
-    let list : drop at (kids_at next id) ≡ drop at (ids_of (all_removed i kids)) = detached-list old slots up place at i (element id name attributes kids) h d g (same id (inl refl)) in
+    ∙ ap (λ ks. Some (record { parent = up; index = index; content = Element name attributes ks })) (sym (ids_of-gone i at kids d.1 g))) in
+    let list : drop at (kids_at next id) ≡ drop at (ids_of (all_removed i kids)) = detached-list old slots up index at i (element id name attributes kids) h d g (same id (inl refl)) in
     let own : IsAmong id (all_ids (all_removed i kids)) → ⊥ = λ b. d.0 (all_removed-part i kids id b) in
     let kept : AreSame old next (all_ids (all_removed i kids)) = λ j a.
     slot_at-changed_other (without_kid at) id j slots (λ e. own (subst (λ (k : ℕ). IsAmong k (all_ids (all_removed i kids))) e a)) ∙ same j (inr a) in (
-      placed-other at (drop at (kids_at next id)) next id (λ b. own (among-kids id (all_removed i kids) (among-drop id at (ids_of (all_removed i kids)) (subst (IsAmong id) list b)))) ∙ slot,
+      indexed-other at (drop at (kids_at next id)) next id (λ b. own (among-kids id (all_removed i kids) (among-drop id at (ids_of (all_removed i kids)) (subst (IsAmong id) list b)))) ∙ slot,
       without-held old next id 0 at at i kids (drop at (kids_at next id)) h.1 d.1 g kept (omega arith) list,
     )
 
@@ -116,39 +116,39 @@ ids_of-kept i (node n ns) h =
     rw apart.0 (λ j. first j ∷ rest j)
 
 mutual
-  pub Holds-removed : (slots slots' : List (Option Slot)) (up : Option ℕ) (place i : ℕ) (n p : Node)
+  pub Holds-removed : (slots slots' : List (Option Slot)) (up : Option ℕ) (index i : ℕ) (n p : Node)
       → AreDistinct (ids n) → parent_in i n ≡ Some p → ((j : ℕ) → IsAmong j (ids n) → (IsAmong j (ids p) → ⊥) → slot_at slots' j ≡ slot_at slots j)
-      → ((up : Option ℕ) (place : ℕ) → Holds slots up place p → Holds slots' up place (removed i p))
-      → Holds slots up place n → Holds slots' up place (removed i n)
-  Holds-removed slots slots' up place i (element id name attributes kids) p d f same here h = elim (if-found (is_among i (ids_of kids)) (element id name attributes kids) p (parent_below i kids) f) [
+      → ((up : Option ℕ) (index : ℕ) → Holds slots up index p → Holds slots' up index (removed i p))
+      → Holds slots up index n → Holds slots' up index (removed i n)
+  Holds-removed slots slots' up index i (element id name attributes kids) p d f same here h = elim (if-found (is_among i (ids_of kids)) (element id name attributes kids) p (parent_below i kids) f) [
     | inl k ↦
-        subst (λ (m : Node). Holds slots up place m → Holds slots' up place (removed i m)) (sym (same_Some (element id name attributes kids) p k.1)) (here up place) h
+        subst (λ (m : Node). Holds slots up index m → Holds slots' up index (removed i m)) (sym (same_Some (element id name attributes kids) p k.1)) (here up index) h
     | inr k ↦ (
       same id (inl refl) (λ b. d.0 (parent_below-part i kids p id k.1 b))
-          ∙ (h.0 ∙ ap (λ ks. Some (record { parent = up; place = place; content = Element name attributes ks })) (sym (ids_of-kept i kids k.0))),
+          ∙ (h.0 ∙ ap (λ ks. Some (record { parent = up; index = index; content = Element name attributes ks })) (sym (ids_of-kept i kids k.0))),
       HoldsAll-removed slots slots' id 0 i kids p d.1 k.1 k.0 (λ j a b. same j (inr a) b) here h.1,
     )
   ]
-  Holds-removed slots slots' up place i (text id cs) p d f same here h = absurd (none-some p f)
+  Holds-removed slots slots' up index i (text id cs) p d f same here h = absurd (none-some p f)
 
-  pub HoldsAll-removed : (slots slots' : List (Option Slot)) (up place i : ℕ) (ns : Nodes) (p : Node)
+  pub HoldsAll-removed : (slots slots' : List (Option Slot)) (up index i : ℕ) (ns : Nodes) (p : Node)
       → AreDistinct (all_ids ns) → parent_below i ns ≡ Some p → is_among i (ids_of ns) ≡ false → ((j : ℕ) → IsAmong j (all_ids ns) → (IsAmong j (ids p) → ⊥) → slot_at slots' j ≡ slot_at slots j)
-      → ((up : Option ℕ) (place : ℕ) → Holds slots up place p → Holds slots' up place (removed i p))
-      → HoldsAll slots up place ns → HoldsAll slots' up place (all_removed i ns)
-  HoldsAll-removed slots slots' up place i no_nodes p d f out same here h = absurd (none-some p f)
-  HoldsAll-removed slots slots' up place i (node n ns) p d f out same here h =
+      → ((up : Option ℕ) (index : ℕ) → Holds slots up index p → Holds slots' up index (removed i p))
+      → HoldsAll slots up index ns → HoldsAll slots' up index (all_removed i ns)
+  HoldsAll-removed slots slots' up index i no_nodes p d f out same here h = absurd (none-some p f)
+  HoldsAll-removed slots slots' up index i (node n ns) p d f out same here h =
       let apart = or-false (i == id_of n) (is_among i (ids_of ns)) out in
       rw apart.0 (elim (or-found (parent_in i n) (parent_below i ns) p f) [
         | inl k ↦
             let rest : all_removed i ns ≡ ns = all_removed-absent i ns (distinct-apart i (ids n) (all_ids ns) d (parent-among i n p k)) in (
-              Holds-removed slots slots' (Some up) place i n p (distinct-left (ids n) (all_ids ns) d) k (λ j a b. same j (among-left j (ids n) (all_ids ns) a) b) here h.0,
-              rw rest (HoldsAll-same slots slots' up (suc place) ns
+              Holds-removed slots slots' (Some up) index i n p (distinct-left (ids n) (all_ids ns) d) k (λ j a b. same j (among-left j (ids n) (all_ids ns) a) b) here h.0,
+              rw rest (HoldsAll-same slots slots' up (suc index) ns
                   (λ j a. same j (among-right j (ids n) (all_ids ns) a) (λ b. distinct-apart j (ids n) (all_ids ns) d (parent-part i n p j k b) a)) h.1),
             )
         | inr k ↦
             let first : removed i n ≡ n = removed-absent i n (λ b. distinct-apart i (ids n) (all_ids ns) d b (parent_below-among i ns p k.1)) in (
-              rw first (Holds-same slots slots' (Some up) place n
+              rw first (Holds-same slots slots' (Some up) index n
                   (λ j a. same j (among-left j (ids n) (all_ids ns) a) (λ b. distinct-apart j (ids n) (all_ids ns) d a (parent_below-part i ns p j k.1 b))) h.0),
-              HoldsAll-removed slots slots' up (suc place) i ns p (distinct-right (ids n) (all_ids ns) d) k.1 apart.1 (λ j a b. same j (among-right j (ids n) (all_ids ns) a) b) here h.1,
+              HoldsAll-removed slots slots' up (suc index) i ns p (distinct-right (ids n) (all_ids ns) d) k.1 apart.1 (λ j a b. same j (among-right j (ids n) (all_ids ns) a) b) here h.1,
             )
       ])

@@ -7,7 +7,7 @@ use Rattle.std.proofs.lemmas.Option.{slice_get_past}
 use Rattle.std.proofs.lemmas.List.{set_past}
 use Rattle.dom_arena.specs.declared.slot.Slot.{Slot}
 use Rattle.dom_arena.specs.Table.{slot_at, kids_of_slot, kids_at, parent_in_slot}
-use Rattle.dom_arena.specs.Writes.{with_place, changed, parents_above}
+use Rattle.dom_arena.specs.Writes.{with_index, changed, parents_above}
 
 pub slot_at-set : (slots : List (Option Slot)) (id : ℕ) (o : Option Slot) → id < length slots → slot_at (slice_set slots id o) id ≡ o
 slot_at-set [] id o l = absurd (omega arith)
@@ -41,11 +41,11 @@ slot_at-changed f id slots = elim (cases_lt id (length slots)) [
 pub slot_at-changed_other : (f : Slot → Slot) (id j : ℕ) (slots : List (Option Slot)) → (j ≡ id → ⊥) → slot_at (changed f id slots) j ≡ slot_at slots j
 slot_at-changed_other f id j slots ne = slot_at-set_other slots id j (option_map f (slot_at slots id)) ne
 
--- ---- a place alone changes no list of children
+-- ---- an index alone changes no list of children
 
-kids-with_place : (place : ℕ) (o : Option Slot) → kids_of_slot (option_map (with_place place) o) ≡ kids_of_slot o
-kids-with_place place None = refl
-kids-with_place place (Some s) = refl
+kids-with_index : (index : ℕ) (o : Option Slot) → kids_of_slot (option_map (with_index index) o) ≡ kids_of_slot o
+kids-with_index index None = refl
+kids-with_index index (Some s) = refl
 
 pub same-or-not : (a b : ℕ) → (a ≡ b) ⊎ (a ≡ b → ⊥)
 same-or-not a b = elim (cases_lt a b) [
@@ -56,29 +56,13 @@ same-or-not a b = elim (cases_lt a b) [
   ]
 ]
 
-pub kids_at-with_place : (place id parent : ℕ) (slots : List (Option Slot)) → kids_at (changed (with_place place) id slots) parent ≡ kids_at slots parent
-kids_at-with_place place id parent slots = elim (same-or-not parent id) [
+pub kids_at-with_index : (index id parent : ℕ) (slots : List (Option Slot)) → kids_at (changed (with_index index) id slots) parent ≡ kids_at slots parent
+kids_at-with_index index id parent slots = elim (same-or-not parent id) [
   | inl e ↦
-      ap (kids_at (changed (with_place place) id slots)) e
-      ∙ (ap kids_of_slot (slot_at-changed (with_place place) id slots) ∙ (kids-with_place place (slot_at slots id) ∙ ap (kids_at slots) (sym e)))
-  | inr ne ↦ ap kids_of_slot (slot_at-changed_other (with_place place) id parent slots ne)
+      ap (kids_at (changed (with_index index) id slots)) e
+      ∙ (ap kids_of_slot (slot_at-changed (with_index index) id slots) ∙ (kids-with_index index (slot_at slots id) ∙ ap (kids_at slots) (sym e)))
+  | inr ne ↦ ap kids_of_slot (slot_at-changed_other (with_index index) id parent slots ne)
 ]
-
--- ---- a number that goes down in a list
-
-pub insert-last : (xs : List ℕ) (x : ℕ) → xs ++ x ∷ [] ≡ insert xs (length xs) x
-insert-last [] x = refl
-insert-last (y ∷ ys) x = ap (λ zs. y ∷ zs) (insert-last ys x)
-
-insert-back : (xs : List ℕ) (k x : ℕ) → k < length xs → slice_set (slice_set (insert xs (suc k) x) (suc k) (get_or (insert xs (suc k) x) k 0)) k x ≡ insert xs k x
-insert-back [] k x l = absurd (omega arith)
-insert-back (z ∷ zs) zero x l = refl
-insert-back (z ∷ zs) (suc k) x l = ap (λ ws. z ∷ ws) (insert-back zs k x (omega arith))
-
-pub insert-stepped : (xs ys : List ℕ) (p k x : ℕ) → p ≡ suc k → p ≤ length xs → ys ≡ insert xs p x → slice_set (slice_set ys p (get_or ys k 0)) k x ≡ insert xs k x
-insert-stepped xs ys p k x s l e =
-    ap (λ zs. slice_set (slice_set zs p (get_or zs k 0)) k x) e
-    ∙ (ap (λ q. slice_set (slice_set (insert xs q x) q (get_or (insert xs q x) k 0)) k x) s ∙ insert-back xs k x (omega arith))
 
 -- ---- parents above
 

@@ -4,16 +4,16 @@ use Rattle.page_model.specs.Document.{Node, element, text, Nodes, no_nodes, node
 use Rattle.dom_arena.specs.declared.slot.Slot.{Slot}
 use Rattle.dom_arena.specs.Table.{slot_of}
 
--- the slots of a node, which has this parent and this place among its children, and of all nodes below it
+-- the slots of a node, which has this parent and this index among its children, and of all nodes below it
 abbrev mutual
   pub rows : Option ℕ → ℕ → Node → List (Option Slot)
-  rows up place (element id name attributes kids) = Some (slot_of up place (element id name attributes kids)) ∷ all_rows id 0 kids
-  rows up place (text id cs) = Some (slot_of up place (text id cs)) ∷ []
+  rows up index (element id name attributes kids) = Some (slot_of up index (element id name attributes kids)) ∷ all_rows id 0 kids
+  rows up index (text id cs) = Some (slot_of up index (text id cs)) ∷ []
 
-  -- the slots of these nodes, children of this parent from this place on
+  -- the slots of these nodes, children of this parent from this index on
   pub all_rows : ℕ → ℕ → Nodes → List (Option Slot)
-  all_rows up place no_nodes = []
-  all_rows up place (node n ns) = rows (Some up) place n ++ all_rows up (suc place) ns
+  all_rows up index no_nodes = []
+  all_rows up index (node n ns) = rows (Some up) index n ++ all_rows up (suc index) ns
 
 -- more slots stand behind the old ones
 abbrev pub IsLonger : List (Option Slot) → List (Option Slot) → Type 0

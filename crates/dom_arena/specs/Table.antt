@@ -41,22 +41,22 @@ name_in o = option_and_then (λ (s : Slot). name_of_content s.content) o
 abbrev pub parent_in_slot : Option Slot → Option ℕ
 parent_in_slot o = option_and_then (λ (s : Slot). s.parent) o
 
--- the parent and the place that a slot names
-abbrev pub spot_in : Option Slot → Option (ℕ × ℕ)
-spot_in o = option_and_then (λ (s : Slot). option_map (λ up. (up, s.place)) s.parent) o
+-- the parent and the index that a slot names
+abbrev pub parent_and_index_in : Option Slot → Option (ℕ × ℕ)
+parent_and_index_in o = option_and_then (λ (s : Slot). option_map (λ up. (up, s.index)) s.parent) o
 
--- what stands before a place of a list, where last stands before the list
+-- what stands before an index of a list, where last stands before the list
 abbrev pub preceding : Option ℕ → List ℕ → ℕ → Option ℕ
 preceding last xs zero = last
 preceding last xs (suc k) = slice_get xs k
 
 -- the sibling after the node in a slot, by its parent's slot
 abbrev pub next_in : List (Option Slot) → Option Slot → Option ℕ
-next_in slots o = option_and_then (λ (s : Slot). option_and_then (λ up. slice_get (kids_at slots up) (suc s.place)) s.parent) o
+next_in slots o = option_and_then (λ (s : Slot). option_and_then (λ up. slice_get (kids_at slots up) (suc s.index)) s.parent) o
 
 -- the same of the sibling before
 abbrev pub prev_in : List (Option Slot) → Option Slot → Option ℕ
-prev_in slots o = option_and_then (λ (s : Slot). option_and_then (λ up. preceding None (kids_at slots up) s.place) s.parent) o
+prev_in slots o = option_and_then (λ (s : Slot). option_and_then (λ up. preceding None (kids_at slots up) s.index) s.parent) o
 
 -- ---- the tree that a table is
 
@@ -86,21 +86,21 @@ abbrev pub content_of : Node → Content
 content_of (element id name attributes kids) = Element name attributes (ids_of kids)
 content_of (text id cs) = Chars cs
 
--- the slot of a node with this parent and this place among its children
+-- the slot of a node with this parent and this index among its children
 abbrev pub slot_of : Option ℕ → ℕ → Node → Slot
-slot_of up place n = record { parent = up; place = place; content = content_of n }
+slot_of up index n = record { parent = up; index = index; content = content_of n }
 
--- the slots hold this node, which has this parent and this place among its children, and all nodes below it
+-- the slots hold this node, which has this parent and this index among its children, and all nodes below it
 abbrev mutual
   pub Holds : List (Option Slot) → Option ℕ → ℕ → Node → Type 0
-  Holds slots up place (element id name attributes kids) =
-      (slot_at slots id ≡ Some (slot_of up place (element id name attributes kids))) × HoldsAll slots id 0 kids
-  Holds slots up place (text id cs) = slot_at slots id ≡ Some (slot_of up place (text id cs))
+  Holds slots up index (element id name attributes kids) =
+      (slot_at slots id ≡ Some (slot_of up index (element id name attributes kids))) × HoldsAll slots id 0 kids
+  Holds slots up index (text id cs) = slot_at slots id ≡ Some (slot_of up index (text id cs))
 
-  -- the slots hold these nodes, children of this parent from this place on
+  -- the slots hold these nodes, children of this parent from this index on
   pub HoldsAll : List (Option Slot) → ℕ → ℕ → Nodes → Type 0
-  HoldsAll slots up place no_nodes = Unit {0}
-  HoldsAll slots up place (node n ns) = Holds slots (Some up) place n × HoldsAll slots up (suc place) ns
+  HoldsAll slots up index no_nodes = Unit {0}
+  HoldsAll slots up index (node n ns) = Holds slots (Some up) index n × HoldsAll slots up (suc index) ns
 
 -- the slots are the table of this tree: they hold it and no other live node, and it is within the limits
 pub record IsTable (slots : List (Option Slot)) (root : Node) : Type 0 where

@@ -22,22 +22,22 @@ with_kid at id s = record s { content = content_with (insert (kids_in s.content)
 abbrev pub without_kid : ℕ → Slot → Slot
 without_kid at s = record s { content = content_with (remove (kids_in s.content) at) s.content }
 
--- the slot at another place among the parent's children
-abbrev pub with_place : ℕ → Slot → Slot
-with_place place s = record s { place = place }
+-- the slot at another index among the parent's children
+abbrev pub with_index : ℕ → Slot → Slot
+with_index index s = record s { index = index }
 
 -- the slots after a change of one that is live
 abbrev pub changed : (Slot → Slot) → ℕ → List (Option Slot) → List (Option Slot)
 changed f id slots = slice_set slots id (option_map f (slot_at slots id))
 
--- the slots where these nodes have the places from this one on
-unfoldable pub placed : ℕ → List ℕ → List (Option Slot) → List (Option Slot)
-placed place [] slots = slots
-placed place (id ∷ ids) slots = placed (suc place) ids (changed (with_place place) id slots)
+-- the slots where these nodes have the indices from this one on
+unfoldable pub indexed : ℕ → List ℕ → List (Option Slot) → List (Option Slot)
+indexed index [] slots = slots
+indexed index (id ∷ ids) slots = indexed (suc index) ids (changed (with_index index) id slots)
 
--- the slots where the children of this parent have their places, from this one on
+-- the slots where the children of this parent have their indices, from this one on
 abbrev pub lined_up : ℕ → ℕ → List (Option Slot) → List (Option Slot)
-lined_up parent from slots = placed from (drop from (kids_at slots parent)) slots
+lined_up parent from slots = indexed from (drop from (kids_at slots parent)) slots
 
 -- the slots where this parent has one more child, with so many before it
 abbrev pub attached : ℕ → ℕ → ℕ → List (Option Slot) → List (Option Slot)

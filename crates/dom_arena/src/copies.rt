@@ -6,8 +6,9 @@ ghost use Rattle.page_model.specs.Limits.{max_ids};
 ghost use Rattle.dom_arena.specs.Shape.{shape};
 ghost use Rattle.dom_arena.specs.Rows.{rows, all_rows, IsLonger};
 
+use super::child_ids::ChildIds;
 use super::slot::{Content, Slot};
-use super::tree::Tree;
+use super::tree::{Attribute, Attributes, Tree};
 use port_core::{NoMemory, NodeId, Seq, Text};
 use std::alloc::Global;
 
@@ -17,10 +18,7 @@ fn copy_text(alloc: Global, text: &Text) -> Result<Text, NoMemory>
     Text::new(alloc, text.as_str())
 }
 
-fn copy_attributes(
-    alloc: Global,
-    attributes: &[(Text, Text)],
-) -> Result<Seq<(Text, Text)>, NoMemory>
+fn copy_attributes(alloc: Global, attributes: &[Attribute]) -> Result<Attributes, NoMemory>
     ensures { IfOk result (λ copy. copy ≡ attributes.now) }
 {
     let mut copy = Seq::new(alloc);
@@ -32,31 +30,31 @@ fn copy_attributes(
     Ok(copy)
 }
 
-/// Copies a tree behind the slots, as the child of this parent at this place, and answers its number.
+/// Copies a tree behind the slots, as the child of this parent at this index, and answers its number.
 #[cycle(append)]
 pub fn append(
     alloc: Global,
     slots: &mut Vec<Option<Slot>>,
     tree: &Tree,
     parent: Option<NodeId>,
-    place: usize,
+    index: usize,
 ) -> Result<NodeId, NoMemory>
     requires room { length slots.old.items + size (shape tree.now) ≤ max_ids }
     ensures number { IfOk result (λ id. id ≡ length slots.old.items) }
-    ensures copied { OnOk result (slots.new.items ≡ slots.old.items ++ rows parent place (numbered (length slots.old.items) (shape tree.now))) }
+    ensures copied { OnOk result (slots.new.items ≡ slots.old.items ++ rows parent index (numbered (length slots.old.items) (shape tree.now))) }
     ensures longer { OnErr result (IsLonger slots.old.items slots.new.items) }
 {
     match tree {
-        Tree::Elem(name, attributes, kids) => append_element(
+        Tree::Elem(name, attributes, children) => append_element(
             alloc,
             slots,
             name,
             attributes.as_slice(),
-            kids.as_slice(),
+            children.as_slice(),
             parent,
-            place,
+            index,
         ),
-        Tree::Chars(text) => append_text(alloc, slots, text, parent, place),
+        Tree::Chars(text) => append_text(alloc, slots, text, parent, index),
     }
 }
 
@@ -65,18 +63,18 @@ fn append_text(
     slots: &mut Vec<Option<Slot>>,
     text: &Text,
     parent: Option<NodeId>,
-    place: usize,
+    index: usize,
 ) -> Result<NodeId, NoMemory>
     requires room { length slots.old.items + 1 ≤ max_ids }
     ensures number { IfOk result (λ id. id ≡ length slots.old.items) }
-    ensures copied { OnOk result (slots.new.items ≡ slots.old.items ++ rows parent place (numbered (length slots.old.items) (characters text.now))) }
+    ensures copied { OnOk result (slots.new.items ≡ slots.old.items ++ rows parent index (numbered (length slots.old.items) (characters text.now))) }
     ensures longer { OnErr result (IsLonger slots.old.items slots.new.items) }
 {
     let id = slots.len() as NodeId;
     let content = Content::Chars(copy_text(alloc, text)?);
     slots.push(Some(Slot {
         parent,
-        place,
+        index,
         content,
     }))?;
     Ok(id)
@@ -88,25 +86,25 @@ fn append_element(
     alloc: Global,
     slots: &mut Vec<Option<Slot>>,
     name: &Text,
-    attributes: &[(Text, Text)],
-    kids: &[Tree],
+    attributes: &[Attribute],
+    children: &[Tree],
     parent: Option<NodeId>,
-    place: usize,
+    index: usize,
 ) -> Result<NodeId, NoMemory>
-    requires room { length slots.old.items + size (elem name.now attributes.now (trees_of (map shape kids.now))) ≤ max_ids }
+    requires room { length slots.old.items + size (elem name.now attributes.now (trees_of (map shape children.now))) ≤ max_ids }
     ensures number { IfOk result (λ id. id ≡ length slots.old.items) }
-    ensures copied { OnOk result (slots.new.items ≡ slots.old.items ++ rows parent place (numbered (length slots.old.items) (elem name.now attributes.now (trees_of (map shape kids.now))))) }
+    ensures copied { OnOk result (slots.new.items ≡ slots.old.items ++ rows parent index (numbered (length slots.old.items) (elem name.now attributes.now (trees_of (map shape children.now))))) }
     ensures longer { OnErr result (IsLonger slots.old.items slots.new.items) }
 {
     let id = slots.len() as NodeId;
     slots.push(None)?;
-    let kids = append_all(alloc, slots, kids, id)?;
+    let children = append_all(alloc, slots, children, id)?;
     let name = copy_text(alloc, name)?;
     let attributes = copy_attributes(alloc, attributes)?;
-    let content = Content::Element(name, attributes, kids);
+    let content = Content::Element(name, attributes, children);
     slots[id as usize] = Some(Slot {
         parent,
-        place,
+        index,
         content,
     });
     Ok(id)
@@ -117,17 +115,17 @@ fn append_element(
 fn append_all(
     alloc: Global,
     slots: &mut Vec<Option<Slot>>,
-    kids: &[Tree],
+    children: &[Tree],
     parent: NodeId,
-) -> Result<Seq<NodeId>, NoMemory>
-    requires room { length slots.old.items + sizes (trees_of (map shape kids.now)) ≤ max_ids }
-    ensures numbers { IfOk result (λ numbers. numbers ≡ ids_of (all_numbered (length slots.old.items) (trees_of (map shape kids.now)))) }
-    ensures copied { OnOk result (slots.new.items ≡ slots.old.items ++ all_rows parent 0 (all_numbered (length slots.old.items) (trees_of (map shape kids.now)))) }
+) -> Result<ChildIds, NoMemory>
+    requires room { length slots.old.items + sizes (trees_of (map shape children.now)) ≤ max_ids }
+    ensures numbers { IfOk result (λ numbers. numbers ≡ ids_of (all_numbered (length slots.old.items) (trees_of (map shape children.now)))) }
+    ensures copied { OnOk result (slots.new.items ≡ slots.old.items ++ all_rows parent 0 (all_numbered (length slots.old.items) (trees_of (map shape children.now)))) }
     ensures longer { OnErr result (IsLonger slots.old.items slots.new.items) }
 {
-    let mut numbers = Seq::new(alloc);
-    for i in 0..kids.len() {
-        let number = append(alloc, slots, &kids[i], Some(parent), i)?;
+    let mut numbers = ChildIds::new(alloc);
+    for i in 0..children.len() {
+        let number = append(alloc, slots, &children[i], Some(parent), i)?;
         numbers.push(number)?;
     }
     Ok(numbers)

@@ -107,7 +107,7 @@ impl Doc {
     pub fn first_child(&self, id: NodeId) -> Option<NodeId>
         ensures { result ≡ first_child_of id self.now.root }
     {
-        table::first_kid(self.slots.as_slice(), id)
+        table::first_child(self.slots.as_slice(), id)
     }
 
     /// The children of an element, in order. A text has none.
@@ -115,7 +115,7 @@ impl Doc {
         ensures children { result ≡ child_ids id self.now.root }
         ensures found { (n : Node) → find id self.now.root ≡ Some n → AreFound self.now.root (kids_of n) }
     {
-        Children::over(table::kids(self.slots.as_slice(), id))
+        Children::over(table::children(self.slots.as_slice(), id))
     }
 
     /// The element that has this node among its children.
@@ -175,7 +175,7 @@ impl Doc {
     fn child_count(&self, id: NodeId) -> usize
         ensures { result ≡ child_count id self.now.root }
     {
-        table::kids(self.slots.as_slice(), id).len()
+        table::children(self.slots.as_slice(), id).len()
     }
 
     /// The level of a node, where the root stands at 1.
@@ -199,12 +199,12 @@ impl Doc {
         if !self.is_live(id) {
             return Err(DocFault::NoNode);
         }
-        let Some((parent, place)) = table::spot(self.slots.as_slice(), id) else {
+        let Some((parent, index)) = table::parent_and_index(self.slots.as_slice(), id) else {
             return Err(DocFault::IsRoot);
         };
         let slots = self.slots.as_mut_slice();
         edits::clear(slots, &mut self.live, id, MAX_DEPTH);
-        edits::detach(slots, parent, place);
+        edits::detach(slots, parent, index);
         Ok(())
     }
 }

@@ -1,4 +1,4 @@
-//! Writing a table of slots: a child more or fewer in a list, the places of children, and slots that are no longer live.
+//! Writing a table of slots: a child more or fewer in a list, the indices of children, and slots that are no longer live.
 ghost use Rattle.std.specs.Prelude.{◌≡◌, ◌≤◌, ◌<◌, ◌-◌, length, drop, suc, None, Some, option_map, OnOk, OnErr, IfOk, ◌+◌, slice_set, Option, ℕ};
 ghost use Rattle.std.specs.List.{insert, remove};
 ghost use Rattle.page_model.specs.Document.{Node, Nodes, id_of, ids_of, ids, all_ids, height, heights, AreDistinct};
@@ -7,90 +7,73 @@ ghost use Rattle.page_model.specs.Limits.{max_ids};
 ghost use Rattle.dom_arena.specs.Shape.{shape};
 ghost use Rattle.dom_arena.specs.Rows.{IsLonger};
 ghost use Rattle.dom_arena.specs.Table.{slot_at, kids_of_slot, kids_at, Holds, HoldsAll};
-ghost use Rattle.dom_arena.specs.Writes.{with_kid, without_kid, with_place, changed, placed, lined_up, attached, enlarged, detached, Clears};
+ghost use Rattle.dom_arena.specs.Writes.{with_kid, without_kid, with_index, changed, indexed, lined_up, attached, enlarged, detached, Clears};
 
 use super::slot::{Content, Slot};
 use super::tree::Tree;
 use super::{copies, table};
-use port_core::{NoMemory, NodeId, Seq};
+use port_core::{NoMemory, NodeId};
 use std::alloc::Global;
 
-/// Puts a number into a list, with so many before it.
-fn put(ids: &mut Seq<NodeId>, at: usize, id: NodeId) -> Result<(), NoMemory>
-    requires within { at ≤ length ids.old }
-    ensures put { OnOk result (ids.new ≡ insert ids.old at id) }
-    ensures kept { OnErr result (ids.new ≡ ids.old) }
-{
-    let mut place = ids.len();
-    ids.push(id)?;
-    while place > at {
-        let before = ids.as_slice()[place - 1];
-        ids.set(place, before);
-        place -= 1;
-        ids.set(place, id);
-    }
-    Ok(())
-}
-
 /// Puts a child into an element's slot.
-fn put_kid(slot: &mut Option<Slot>, at: usize, id: NodeId) -> Result<(), NoMemory>
-    requires within { at ≤ length (kids_of_slot slot.old) }
-    ensures put { OnOk result (slot.new ≡ option_map (with_kid at id) slot.old) }
+fn put_child(slot: &mut Option<Slot>, index: usize, id: NodeId) -> Result<(), NoMemory>
+    requires within { index ≤ length (kids_of_slot slot.old) }
+    ensures put { OnOk result (slot.new ≡ option_map (with_kid index id) slot.old) }
     ensures kept { OnErr result (slot.new ≡ slot.old) }
 {
     match slot {
         Some(
             Slot {
-                content: Content::Element(_, _, kids),
+                content: Content::Element(_, _, children),
                 ..
             },
-        ) => put(kids, at, id),
+        ) => children.insert(index, id),
         _ => Ok(()),
     }
 }
 
 /// Takes a child out of an element's slot.
-fn take_kid(slot: &mut Option<Slot>, at: usize)
-    requires within { at < length (kids_of_slot slot.old) }
-    ensures { slot.new ≡ option_map (without_kid at) slot.old }
+fn take_child(slot: &mut Option<Slot>, index: usize)
+    requires within { index < length (kids_of_slot slot.old) }
+    ensures { slot.new ≡ option_map (without_kid index) slot.old }
 {
     if let Some(
         Slot {
-            content: Content::Element(_, _, kids),
+            content: Content::Element(_, _, children),
             ..
         },
     ) = slot
     {
-        kids.remove(at);
+        children.remove(index);
     }
 }
 
-/// Gives a slot its place.
-fn set_place(slot: &mut Option<Slot>, place: usize)
-    ensures { slot.new ≡ option_map (with_place place) slot.old }
+/// Gives a slot its index.
+fn set_index(slot: &mut Option<Slot>, index: usize)
+    ensures { slot.new ≡ option_map (with_index index) slot.old }
 {
     if let Some(slot) = slot {
-        slot.place = place;
+        slot.index = index;
     }
 }
 
-/// Gives a node its place, where there is a slot of its number.
-fn place(slots: &mut [Option<Slot>], id: NodeId, place: usize)
-    ensures { slots.new ≡ changed (with_place place) id slots.old }
+/// Gives a node its index, where there is a slot of its number.
+fn write_index(slots: &mut [Option<Slot>], id: NodeId, index: usize)
+    ensures { slots.new ≡ changed (with_index index) id slots.old }
 {
     let id = id as usize;
     if id < slots.len() {
-        set_place(&mut slots[id], place);
+        set_index(&mut slots[id], index);
     }
 }
 
-/// Gives the children of a parent their places, from this one on.
+/// Gives the children of a parent their indices, from this one on.
 fn line_up(slots: &mut [Option<Slot>], parent: NodeId, from: usize)
     ensures { slots.new ≡ lined_up parent from slots.old }
 {
-    for at in from..table::kids(slots, parent).len() {
-        let id = table::kids(slots, parent)[at];
-        place(slots, id, at);
+    for at in from..table::children(slots, parent).len() {
+        let id = table::children(slots, parent)[at];
+        write_index(slots, id, at);
     }
 }
 
@@ -98,16 +81,16 @@ fn line_up(slots: &mut [Option<Slot>], parent: NodeId, from: usize)
 pub fn attach(
     slots: &mut [Option<Slot>],
     parent: NodeId,
-    at: usize,
+    index: usize,
     id: NodeId,
 ) -> Result<(), NoMemory>
     requires parent { parent < length slots.old }
-    requires within { at ≤ length (kids_at slots.old parent) }
-    ensures attached { OnOk result (slots.new ≡ attached parent at id slots.old) }
+    requires within { index ≤ length (kids_at slots.old parent) }
+    ensures attached { OnOk result (slots.new ≡ attached parent index id slots.old) }
     ensures kept { OnErr result (slots.new ≡ slots.old) }
 {
-    put_kid(&mut slots[parent as usize], at, id)?;
-    line_up(slots, parent, at);
+    put_child(&mut slots[parent as usize], index, id)?;
+    line_up(slots, parent, index);
     Ok(())
 }
 
@@ -117,17 +100,17 @@ pub fn insert(
     slots: &mut Vec<Option<Slot>>,
     tree: &Tree,
     parent: NodeId,
-    at: usize,
+    index: usize,
 ) -> Result<NodeId, NoMemory>
     requires room { length slots.old.items + size (shape tree.now) ≤ max_ids }
     requires parent { parent < length slots.old.items }
-    requires within { at ≤ length (kids_at slots.old.items parent) }
+    requires within { index ≤ length (kids_at slots.old.items parent) }
     ensures number { IfOk result (λ id. id ≡ length slots.old.items) }
-    ensures inserted { OnOk result (slots.new.items ≡ enlarged parent at (shape tree.now) slots.old.items) }
+    ensures inserted { OnOk result (slots.new.items ≡ enlarged parent index (shape tree.now) slots.old.items) }
     ensures kept { OnErr result (slots.new.items ≡ slots.old.items) }
 {
     let given = slots.len();
-    let done = append_and_attach(alloc, slots, tree, parent, at);
+    let done = append_and_attach(alloc, slots, tree, parent, index);
     if done.is_err() {
         slots.truncate(given);
     }
@@ -140,28 +123,28 @@ fn append_and_attach(
     slots: &mut Vec<Option<Slot>>,
     tree: &Tree,
     parent: NodeId,
-    at: usize,
+    index: usize,
 ) -> Result<NodeId, NoMemory>
     requires room { length slots.old.items + size (shape tree.now) ≤ max_ids }
     requires parent { parent < length slots.old.items }
-    requires within { at ≤ length (kids_at slots.old.items parent) }
+    requires within { index ≤ length (kids_at slots.old.items parent) }
     ensures number { IfOk result (λ id. id ≡ length slots.old.items) }
-    ensures inserted { OnOk result (slots.new.items ≡ enlarged parent at (shape tree.now) slots.old.items) }
+    ensures inserted { OnOk result (slots.new.items ≡ enlarged parent index (shape tree.now) slots.old.items) }
     ensures longer { OnErr result (IsLonger slots.old.items slots.new.items) }
 {
-    let id = copies::append(alloc, slots, tree, Some(parent), at)?;
-    attach(slots.as_mut_slice(), parent, at, id)?;
+    let id = copies::append(alloc, slots, tree, Some(parent), index)?;
+    attach(slots.as_mut_slice(), parent, index, id)?;
     Ok(id)
 }
 
 /// Takes the child with so many children before it from this parent.
-pub fn detach(slots: &mut [Option<Slot>], parent: NodeId, at: usize)
+pub fn detach(slots: &mut [Option<Slot>], parent: NodeId, index: usize)
     requires parent { parent < length slots.old }
-    requires within { at < length (kids_at slots.old parent) }
-    ensures { slots.new ≡ detached parent at slots.old }
+    requires within { index < length (kids_at slots.old parent) }
+    ensures { slots.new ≡ detached parent index slots.old }
 {
-    take_kid(&mut slots[parent as usize], at);
-    line_up(slots, parent, at);
+    take_child(&mut slots[parent as usize], index);
+    line_up(slots, parent, index);
 }
 
 /// Takes a slot out.
@@ -180,21 +163,21 @@ fn take(slots: &mut [Option<Slot>], id: NodeId) -> Option<Slot>
 /// Takes out a node with all below it, at most so many levels, and counts down for each.
 #[cycle(clear)]
 pub fn clear(slots: &mut [Option<Slot>], live: &mut u32, id: NodeId, levels: u32)
-    ensures { (up : Option ℕ) (place : ℕ) (n : Node) → Holds slots.old up place n → id_of n ≡ id → height n ≤ levels → AreDistinct (ids n) → Clears slots.old slots.new live.old live.new (ids n) }
+    ensures { (up : Option ℕ) (index : ℕ) (n : Node) → Holds slots.old up index n → id_of n ≡ id → height n ≤ levels → AreDistinct (ids n) → Clears slots.old slots.new live.old live.new (ids n) }
 {
     if levels == 0 {
         return;
     }
     let taken = take(slots, id);
     *live = live.saturating_sub(1);
-    clear_all(slots, live, table::kids_of(taken.as_ref()), levels - 1);
+    clear_all(slots, live, table::children_of(taken.as_ref()), levels - 1);
 }
 
 #[cycle(clear)]
-fn clear_all(slots: &mut [Option<Slot>], live: &mut u32, kids: &[NodeId], levels: u32)
-    ensures { (up place : ℕ) (ns : Nodes) → HoldsAll slots.old up place ns → ids_of ns ≡ kids.now → heights ns ≤ levels → AreDistinct (all_ids ns) → Clears slots.old slots.new live.old live.new (all_ids ns) }
+fn clear_all(slots: &mut [Option<Slot>], live: &mut u32, children: &[NodeId], levels: u32)
+    ensures { (up index : ℕ) (ns : Nodes) → HoldsAll slots.old up index ns → ids_of ns ≡ children.now → heights ns ≤ levels → AreDistinct (all_ids ns) → Clears slots.old slots.new live.old live.new (all_ids ns) }
 {
-    for kid in kids {
-        clear(slots, live, *kid, levels);
+    for child in children {
+        clear(slots, live, *child, levels);
     }
 }

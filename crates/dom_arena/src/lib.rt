@@ -1,6 +1,7 @@
 //! The document: a tree of elements and texts kept by number.
 #![tactic(auto)]
 
+mod child_ids;
 mod children;
 mod copies;
 mod doc;
@@ -14,4 +15,5 @@ mod tree;
 pub use children::Children;
 pub use doc::Doc;
 pub use fault::DocFault;
+pub use limits::MAX_DEPTH;
 pub use tree::{Attribute, Attributes as Attrs, Tree};

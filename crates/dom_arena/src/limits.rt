@@ -30,10 +30,11 @@ pub fn check(tree: &Tree, above: u32, live: u32, given: u32) -> Result<(), DocFa
     if !is_within(tree, MAX_DEPTH - above) {
         return Err(DocFault::DepthLimit);
     }
-    if room_after(tree, MAX_NODES - live).is_none() {
+    let room = MAX_NODES - live;
+    let Some(left) = room_after(tree, room) else {
         return Err(DocFault::NodeLimit);
-    }
-    if room_after(tree, MAX_IDS - given).is_none() {
+    };
+    if room - left > MAX_IDS - given {
         return Err(DocFault::IdLimit);
     }
     Ok(())
@@ -48,17 +49,17 @@ fn is_within(tree: &Tree, levels: u32) -> bool
         return false;
     }
     match tree {
-        Tree::Elem(_, _, kids) => are_within(kids.as_slice(), levels - 1),
+        Tree::Elem(_, _, children) => are_within(children.as_slice(), levels - 1),
         Tree::Chars(_) => true,
     }
 }
 
 #[cycle(deep)]
-fn are_within(kids: &[Tree], levels: u32) -> bool
-    ensures { IsTrue result ↔ (depths (trees_of (map shape kids.now)) ≤ levels) }
+fn are_within(children: &[Tree], levels: u32) -> bool
+    ensures { IsTrue result ↔ (depths (trees_of (map shape children.now)) ≤ levels) }
 {
-    for kid in kids {
-        if !is_within(kid, levels) {
+    for child in children {
+        if !is_within(child, levels) {
             return false;
         }
     }
@@ -71,24 +72,18 @@ fn room_after(tree: &Tree, room: u32) -> Option<u32>
     ensures { MatchOption result (room < size (shape tree.now)) (λ left. left + size (shape tree.now) ≡ room) }
 {
     match tree {
-        Tree::Elem(_, _, kids) => match room.checked_sub(1) {
-            Some(left) => room_after_all(kids.as_slice(), left),
-            None => None,
-        },
+        Tree::Elem(_, _, children) => room_after_all(children.as_slice(), room.checked_sub(1)?),
         Tree::Chars(_) => room.checked_sub(1),
     }
 }
 
 #[cycle(room)]
-fn room_after_all(kids: &[Tree], room: u32) -> Option<u32>
-    ensures { MatchOption result (room < sizes (trees_of (map shape kids.now))) (λ left. left + sizes (trees_of (map shape kids.now)) ≡ room) }
+fn room_after_all(children: &[Tree], room: u32) -> Option<u32>
+    ensures { MatchOption result (room < sizes (trees_of (map shape children.now))) (λ left. left + sizes (trees_of (map shape children.now)) ≡ room) }
 {
     let mut left = room;
-    for kid in kids {
-        match room_after(kid, left) {
-            Some(rest) => left = rest,
-            None => return None,
-        }
+    for child in children {
+        left = room_after(child, left)?;
     }
     Some(left)
 }

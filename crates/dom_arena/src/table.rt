@@ -4,7 +4,7 @@ ghost use Rattle.std.specs.Option.{option_copied};
 ghost use Rattle.page_model.specs.Document.{first};
 ghost use Rattle.page_model.specs.Limits.{max_depth};
 ghost use Rattle.dom_arena.specs.Writes.{parents_above};
-ghost use Rattle.dom_arena.specs.Table.{slot_at, kids_of_slot, kids_at, name_in, parent_in_slot, spot_in, next_in, prev_in, preceding};
+ghost use Rattle.dom_arena.specs.Table.{slot_at, kids_of_slot, kids_at, name_in, parent_in_slot, parent_and_index_in, next_in, prev_in, preceding};
 
 use super::limits::MAX_DEPTH;
 use super::slot::{Content, Slot};
@@ -18,12 +18,12 @@ pub fn live_slot(slots: &[Option<Slot>], id: NodeId) -> Option<&Slot>
 }
 
 /// The numbers of the children in a slot: of a text and of a node that is not live, none.
-pub fn kids_of(slot: Option<&Slot>) -> &[NodeId]
+pub fn children_of(slot: Option<&Slot>) -> &[NodeId]
     ensures { result.now ≡ kids_of_slot (option_copied slot.entry) }
 {
     match slot {
         Some(slot) => match &slot.content {
-            Content::Element(_, _, kids) => kids.as_slice(),
+            Content::Element(_, _, children) => children.as_slice(),
             Content::Chars(_) => &[],
         },
         None => &[],
@@ -31,22 +31,19 @@ pub fn kids_of(slot: Option<&Slot>) -> &[NodeId]
 }
 
 /// The numbers of a node's children.
-pub fn kids(slots: &[Option<Slot>], id: NodeId) -> &[NodeId]
+pub fn children(slots: &[Option<Slot>], id: NodeId) -> &[NodeId]
     ensures { result.now ≡ kids_at slots.now id }
 {
-    kids_of(live_slot(slots, id))
+    children_of(live_slot(slots, id))
 }
 
 /// An element's name.
 pub fn name(slots: &[Option<Slot>], id: NodeId) -> Option<&str>
     ensures { option_map (λ s. s.now) result ≡ option_map encode_utf8_all (name_in (slot_at slots.now id)) }
 {
-    match live_slot(slots, id) {
-        Some(slot) => match &slot.content {
-            Content::Element(name, _, _) => Some(name.as_str()),
-            Content::Chars(_) => None,
-        },
-        None => None,
+    match &live_slot(slots, id)?.content {
+        Content::Element(name, _, _) => Some(name.as_str()),
+        Content::Chars(_) => None,
     }
 }
 
@@ -57,39 +54,39 @@ pub fn parent(slots: &[Option<Slot>], id: NodeId) -> Option<NodeId>
     live_slot(slots, id)?.parent
 }
 
-/// The parent that a node's slot names, and the node's place among the parent's children.
-pub fn spot(slots: &[Option<Slot>], id: NodeId) -> Option<(NodeId, usize)>
-    ensures { result ≡ spot_in (slot_at slots.now id) }
+/// The parent that a node's slot names, and the node's index among the parent's children.
+pub fn parent_and_index(slots: &[Option<Slot>], id: NodeId) -> Option<(NodeId, usize)>
+    ensures { result ≡ parent_and_index_in (slot_at slots.now id) }
 {
     let slot = live_slot(slots, id)?;
-    Some((slot.parent?, slot.place))
+    Some((slot.parent?, slot.index))
 }
 
 /// The first child.
-pub fn first_kid(slots: &[Option<Slot>], id: NodeId) -> Option<NodeId>
+pub fn first_child(slots: &[Option<Slot>], id: NodeId) -> Option<NodeId>
     ensures { result ≡ first (kids_at slots.now id) }
 {
-    kids(slots, id).first().copied()
+    children(slots, id).first().copied()
 }
 
-/// What stands right before a place of a list.
-fn before(ids: &[NodeId], place: usize) -> Option<NodeId>
-    ensures { result ≡ preceding None ids.now place }
+/// What stands right before an index of a list.
+fn before(ids: &[NodeId], index: usize) -> Option<NodeId>
+    ensures { result ≡ preceding None ids.now index }
 {
-    if place == 0 {
+    if index == 0 {
         return None;
     }
-    ids.get(place - 1).copied()
+    ids.get(index - 1).copied()
 }
 
-/// What stands right after a place of a list.
-fn after(ids: &[NodeId], place: usize) -> Option<NodeId>
-    ensures { result ≡ slice_get ids.now (suc place) }
+/// What stands right after an index of a list.
+fn after(ids: &[NodeId], index: usize) -> Option<NodeId>
+    ensures { result ≡ slice_get ids.now (suc index) }
 {
-    if place >= ids.len() {
+    if index >= ids.len() {
         return None;
     }
-    ids.get(place + 1).copied()
+    ids.get(index + 1).copied()
 }
 
 /// The next child of the parent.
@@ -97,7 +94,7 @@ pub fn next(slots: &[Option<Slot>], id: NodeId) -> Option<NodeId>
     ensures { result ≡ next_in slots.now (slot_at slots.now id) }
 {
     let slot = live_slot(slots, id)?;
-    after(kids(slots, slot.parent?), slot.place)
+    after(children(slots, slot.parent?), slot.index)
 }
 
 /// The previous child of the parent.
@@ -105,7 +102,7 @@ pub fn prev(slots: &[Option<Slot>], id: NodeId) -> Option<NodeId>
     ensures { result ≡ prev_in slots.now (slot_at slots.now id) }
 {
     let slot = live_slot(slots, id)?;
-    before(kids(slots, slot.parent?), slot.place)
+    before(children(slots, slot.parent?), slot.index)
 }
 
 /// The level of a node, where one without a parent stands at 1, as far as the depth of a document.

@@ -14,7 +14,7 @@ pub type Attributes = Seq<Attribute>;
 #[derive(Debug, Drop)]
 pub enum Tree {
     /// An element: its name, its attributes, its children.
-    Elem(Text, Seq<(Text, Text)>, Seq<Tree>),
+    Elem(Text, Attributes, Seq<Tree>),
     /// A text.
     Chars(Text),
 }
@@ -33,18 +33,18 @@ fn count(tree: &Tree) -> u32
     ensures { result ≡ min (size (shape tree.now)) (2 ^ 32 - 1) }
 {
     match tree {
-        Tree::Elem(_, _, kids) => count_all(kids.as_slice()).saturating_add(1),
+        Tree::Elem(_, _, children) => count_all(children.as_slice()).saturating_add(1),
         Tree::Chars(_) => 1,
     }
 }
 
 #[cycle(count)]
-fn count_all(kids: &[Tree]) -> u32
-    ensures { result ≡ min (sizes (trees_of (map shape kids.now))) (2 ^ 32 - 1) }
+fn count_all(children: &[Tree]) -> u32
+    ensures { result ≡ min (sizes (trees_of (map shape children.now))) (2 ^ 32 - 1) }
 {
     let mut nodes: u32 = 0;
-    for kid in kids {
-        nodes = nodes.saturating_add(count(kid));
+    for child in children {
+        nodes = nodes.saturating_add(count(child));
     }
     nodes
 }

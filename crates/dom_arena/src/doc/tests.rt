@@ -12,10 +12,10 @@ use std::alloc::Global;
 use std::process::Abort;
 use std::test::Fail;
 
-fn element(alloc: Global, name: &str, kids: Seq<Tree>) -> Result<Tree, NoMemory>
+fn element(alloc: Global, name: &str, children: Seq<Tree>) -> Result<Tree, NoMemory>
     ensures { IfOk result (λ t. is_elem (shape t) ≡ true) }
 {
-    Ok(Tree::Elem(Text::new(alloc, name)?, Seq::new(alloc), kids))
+    Ok(Tree::Elem(Text::new(alloc, name)?, Seq::new(alloc), children))
 }
 
 fn text(alloc: Global, content: &str) -> Result<Tree, NoMemory> {
@@ -48,13 +48,13 @@ fn page(alloc: Global) -> Result<Tree, NoMemory>
 fn chain(alloc: Global, length: u32) -> Result<Tree, NoMemory>
     ensures { IfOk result (λ t. is_elem (shape t) ≡ true) }
 {
-    let mut kids = Seq::new(alloc);
+    let mut children = Seq::new(alloc);
     for _i in 1..length {
-        let kid = element(alloc, "div", kids)?;
-        kids = Seq::new(alloc);
-        kids.push(kid)?;
+        let child = element(alloc, "div", children)?;
+        children = Seq::new(alloc);
+        children.push(child)?;
     }
-    element(alloc, "div", kids)
+    element(alloc, "div", children)
 }
 
 /// An element with this many texts.

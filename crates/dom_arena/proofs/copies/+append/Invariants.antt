@@ -10,8 +10,8 @@ use Rattle.dom_arena.proofs.copies.+append.Given as goal
 abbrev pub invariant-append_all-loop-i : goal.invariant-append_all-loop-i
 invariant-append_all-loop-i l = record {
   many : l.i ≤ length l.slots.items;
-  room : length l.slots.items + sizes (trees_of (map shape (drop l.i l.kids))) ≤ max_ids;
-  numbers : l.numbers ++ ids_of (all_numbered (length l.slots.items) (trees_of (map shape (drop l.i l.kids)))) ≡ ids_of (all_numbered (length l.fn.slots.items) (trees_of (map shape l.kids)));
-  copied : l.slots.items ++ all_rows l.parent l.i (all_numbered (length l.slots.items) (trees_of (map shape (drop l.i l.kids)))) ≡ l.fn.slots.items ++ all_rows l.parent 0 (all_numbered (length l.fn.slots.items) (trees_of (map shape l.kids)));
+  room : length l.slots.items + sizes (trees_of (map shape (drop l.i l.children))) ≤ max_ids;
+  numbers : l.numbers ++ ids_of (all_numbered (length l.slots.items) (trees_of (map shape (drop l.i l.children)))) ≡ ids_of (all_numbered (length l.fn.slots.items) (trees_of (map shape l.children)));
+  copied : l.slots.items ++ all_rows l.parent l.i (all_numbered (length l.slots.items) (trees_of (map shape (drop l.i l.children)))) ≡ l.fn.slots.items ++ all_rows l.parent 0 (all_numbered (length l.fn.slots.items) (trees_of (map shape l.children)));
   longer : IsLonger l.fn.slots.items l.slots.items;
 }

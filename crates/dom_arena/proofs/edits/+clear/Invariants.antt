@@ -11,7 +11,7 @@ abbrev pub decreases-clear_all : goal.decreases-clear_all
 decreases-clear_all l = 2 * l.levels + 1
 
 -- to clear the rest is to clear all
-abbrev pub invariant-clear_all-loop-kid : goal.invariant-clear_all-loop-kid
-invariant-clear_all-loop-kid l =
-    (up place : ℕ) (ns : Nodes) → HoldsAll l.fn.slots up place ns → ids_of ns ≡ l.kids → heights ns ≤ l.levels → AreDistinct (all_ids ns)
-    → Clearing l.fn.slots l.slots l.fn.live l.live l.levels up ns (drop l.kid-index l.kids)
+abbrev pub invariant-clear_all-loop-child : goal.invariant-clear_all-loop-child
+invariant-clear_all-loop-child l =
+    (up index : ℕ) (ns : Nodes) → HoldsAll l.fn.slots up index ns → ids_of ns ≡ l.children → heights ns ≤ l.levels → AreDistinct (all_ids ns)
+    → Clearing l.fn.slots l.slots l.fn.live l.live l.levels up ns (drop l.child-index l.children)

@@ -9,4 +9,4 @@ pub returns : goal.returns
 returns c =
     let found : length (kids_at c.self.inside.slots.items c.args.id) ≡ child_count c.args.id c.args.self.now.root =
     subst (λ (d : Document). length (kids_at c.self.inside.slots.items c.args.id) ≡ child_count c.args.id d.root) c.self.view_is (table-child_count c.self.inside.slots.items (tree_in c.self.inside.slots.items) c.args.id c.self.invariant.0) in
-    ap length (c.kids.ensures ∙ ap (λ s. kids_at s c.args.id) c.as_slice.ensures.value) ∙ found
+    ap length (c.children.ensures ∙ ap (λ s. kids_at s c.args.id) c.as_slice.ensures.value) ∙ found
