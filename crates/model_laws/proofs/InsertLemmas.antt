@@ -1,5 +1,5 @@
 -- What is found in a tree after an insert.
-use Rattle.std.proofs.Common.{◌≡◌, ℕ, zero, suc, ◌<◌, ◌≤◌, ◌==◌, List, [], ◌∷◌, false, Option, Some, None, option_map, option_and_then, unwrap_or, is_some, IsSome, refl, sym, ap, ap₂, ◌∙◌, subst, inl, inr, arith, eq-eqb, ne_eqb}
+use Rattle.std.proofs.Common.{◌≡◌, ℕ, zero, suc, ◌<◌, ◌≤◌, ◌==◌, List, [], ◌∷◌, false, Option, Some, None, option_map, unwrap_or, is_some, IsSome, refl, sym, ap, ap₂, ◌∙◌, subst, inl, inr, arith, eq-eqb, ne_eqb}
 use Rattle.std.proofs.lemmas.Bool.{cases_Bool, eqb-true, false≢true}
 use Rattle.std.proofs.lemmas.Option.{same_Some, none-some}
 use Rattle.page_model.specs.Trees.{Tree, elem, characters, size}
@@ -74,18 +74,10 @@ old-found : (parent index : ℕ) (t : Tree) (d : Document) (j : ℕ) → IsWellN
     → find j (after_insert parent index t d).root ≡ option_map (λ x. inserted parent index (numbered d.next_id t) x) (find j d.root)
 old-found parent index t d j w low = find-inserted j parent index (numbered d.next_id t) d.root w.0 (unnumbered-none j d.next_id t low)
 
-name-inserted : (parent index : ℕ) (new : Node) (o : Option Node) → option_and_then name_of (option_map (λ x. inserted parent index new x) o) ≡ option_and_then name_of o
-name-inserted parent index new (Some (element id name attributes kids)) = refl
-name-inserted parent index new (Some (text id cs)) = refl
-name-inserted parent index new None = refl
-
 alone-inserted : (parent index : ℕ) (new : Node) (o : Option Node) → option_map alone (option_map (λ x. inserted parent index new x) o) ≡ option_map alone o
 alone-inserted parent index new (Some (element id name attributes kids)) = refl
 alone-inserted parent index new (Some (text id cs)) = refl
 alone-inserted parent index new None = refl
-
-pub old-name : (parent index : ℕ) (t : Tree) (d : Document) (j : ℕ) → IsWellNumbered d → j < d.next_id → name_at j (after_insert parent index t d).root ≡ name_at j d.root
-old-name parent index t d j w low = ap (option_and_then name_of) (old-found parent index t d j w low) ∙ name-inserted parent index (numbered d.next_id t) (find j d.root)
 
 pub old-alone : (parent index : ℕ) (t : Tree) (d : Document) (j : ℕ) → IsWellNumbered d → j < d.next_id → option_map alone (find j (after_insert parent index t d).root) ≡ option_map alone (find j d.root)
 old-alone parent index t d j w low = ap (option_map alone) (old-found parent index t d j w low) ∙ alone-inserted parent index (numbered d.next_id t) (find j d.root)

@@ -202,15 +202,15 @@ some-not-none : {X : Type 0} (o : Option X) → IsSome o → is_none o ≡ false
 some-not-none (Some x) h = refl
 some-not-none None h = absurd (false≢true h)
 
-pub insert-refused : (parent index : ℕ) (t : Tree) (d : Document) → IsWellNumbered d → IsPlace parent index d → height d.root ≤ max_depth
+pub insert-refused : (parent index : ℕ) (t : Tree) (d : Document) → IsPlace parent index d → height d.root ≤ max_depth
     → first_of (insert_refusals parent index t d) ≡ first_of (excess (after_insert parent index t d))
-insert-refused parent index t d w place low =
-    let p = named-some (find parent d.root) place.0 in
+insert-refused parent index t d place low =
+    let p = named-some (find parent d.root) place.0.1 in
     let limits : Causes = tree_refusals (unwrap_or (level parent d.root) 0) (node_count d.root) d.next_id t in
     let few : Causes = (nat_lt (child_count parent d.root) index, bad_index) ∷ limits in
     skipped (is_none (find parent d.root)) no_node ((is_none (name_at parent d.root), not_element) ∷ few) (ap is_none p.1.0)
-    ∙ (skipped (is_none (name_at parent d.root)) not_element few (some-not-none (name_at parent d.root) place.0)
-    ∙ (skipped (nat_lt (child_count parent d.root) index) bad_index limits (le-ltb (child_count parent d.root) index place.1) ∙ ap first_of (insert-excess parent index t d w place.0 low)))
+    ∙ (skipped (is_none (name_at parent d.root)) not_element few (some-not-none (name_at parent d.root) place.0.1)
+    ∙ (skipped (nat_lt (child_count parent d.root) index) bad_index limits (le-ltb (child_count parent d.root) index place.1) ∙ ap first_of (insert-excess parent index t d place.0.0 place.0.1 low)))
 
 load-excess : (t : Tree) → load_refusals t ≡ excess (document t)
 load-excess t =

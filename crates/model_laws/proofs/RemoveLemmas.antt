@@ -1,8 +1,8 @@
 -- What is found in a tree after a remove.
-use Rattle.std.proofs.Common.{◌≡◌, ℕ, zero, suc, ◌<◌, ◌==◌, List, ◌∷◌, false, Option, Some, None, option_map, option_and_then, is_some, IsSome, refl, sym, ap, ◌∙◌, subst, inl, inr, arith, eq-eqb, ne_eqb}
+use Rattle.std.proofs.Common.{◌≡◌, ℕ, zero, suc, ◌<◌, ◌==◌, List, ◌∷◌, false, Option, Some, None, option_map, is_some, IsSome, refl, sym, ap, ◌∙◌, subst, inl, inr, arith, eq-eqb, ne_eqb}
 use Rattle.std.proofs.lemmas.Bool.{cases_Bool, eqb-false, false≢true}
 use Rattle.page_model.specs.Trees.{Tree}
-use Rattle.page_model.specs.Document.{Node, element, text, Nodes, no_nodes, node, Document, numbered, id_of, kids_of, ids_of, name_of, name_at, ids, all_ids, find, find_in, IsAmong, AreDistinct}
+use Rattle.page_model.specs.Document.{Node, element, text, Nodes, no_nodes, node, Document, numbered, id_of, kids_of, ids_of, ids, all_ids, find, find_in, IsAmong, AreDistinct}
 use Rattle.page_model.specs.Edits.{with_one, inserted, all_inserted, removed, all_removed, after_insert, after_remove}
 use Rattle.page_model.proofs.Members.{among-left, among-right, among-split, among-top, among-find, find-among, distinct-left, distinct-right, distinct-apart}
 use Rattle.page_model.proofs.Spliced.{Spliced, spliced-among, part-apart}
@@ -56,18 +56,10 @@ mutual
 kept-found : (i : ℕ) (d : Document) (j : ℕ) → IsWellNumbered d → IsSome (find j (after_remove i d).root) → find j (after_remove i d).root ≡ option_map (λ x. removed i x) (find j d.root)
 kept-found i d j w h = find-removed i j d.root w.0 (find-among j (after_remove i d).root h)
 
-name-removed : (i : ℕ) (o : Option Node) → option_and_then name_of (option_map (λ x. removed i x) o) ≡ option_and_then name_of o
-name-removed i (Some (element id name attributes kids)) = refl
-name-removed i (Some (text id cs)) = refl
-name-removed i None = refl
-
 alone-removed : (i : ℕ) (o : Option Node) → option_map alone (option_map (λ x. removed i x) o) ≡ option_map alone o
 alone-removed i (Some (element id name attributes kids)) = refl
 alone-removed i (Some (text id cs)) = refl
 alone-removed i None = refl
-
-pub kept-name : (i : ℕ) (d : Document) (j : ℕ) → IsWellNumbered d → IsSome (find j (after_remove i d).root) → name_at j (after_remove i d).root ≡ name_at j d.root
-kept-name i d j w h = ap (option_and_then name_of) (kept-found i d j w h) ∙ name-removed i (find j d.root)
 
 pub kept-alone : (i : ℕ) (d : Document) (j : ℕ) → IsWellNumbered d → IsSome (find j (after_remove i d).root) → option_map alone (find j (after_remove i d).root) ≡ option_map alone (find j d.root)
 kept-alone i d j w h = ap (option_map alone) (kept-found i d j w h) ∙ alone-removed i (find j d.root)
