@@ -1,5 +1,5 @@
 -- What is found in a tree after an insert.
-use Rattle.std.proofs.Common.{◌≡◌, ℕ, zero, suc, ◌<◌, ◌≤◌, ◌==◌, List, [], ◌∷◌, false, Option, Some, None, option_map, unwrap_or, is_some, IsSome, refl, sym, ap, ap₂, ◌∙◌, subst, inl, inr, arith, eq-eqb, ne_eqb}
+use Rattle.std.proofs.Common.{◌≡◌, ℕ, zero, suc, ◌<◌, ◌≤◌, ◌==◌, List, ◌∷◌, false, Option, Some, None, option_map, is_some, IsSome, refl, sym, ap, ap₂, ◌∙◌, subst, inl, inr, arith, eq-eqb, ne_eqb}
 use Rattle.std.proofs.lemmas.Bool.{cases_Bool, eqb-true, false≢true}
 use Rattle.std.proofs.lemmas.Option.{same_Some, none-some}
 use Rattle.page_model.specs.Trees.{Tree, elem, characters, size}
@@ -14,6 +14,7 @@ use Rattle.model_laws.specs.Numbering.{IsWellNumbered, HasRun}
 use Rattle.page_model.specs.Document.{child_ids}
 use Rattle.model_laws.specs.Children.{with_number, alone}
 use Rattle.model_laws.proofs.CountLemmas.{ids-numbered}
+use Rattle.model_laws.proofs.ParentLemmas.{child_ids-found}
 use Rattle.model_laws.proofs.NumberingLemmas.{among-count_up, none-or-some, named-some, absent-none, some-among, spliced-named}
 
 -- ---- look-ups
@@ -31,9 +32,6 @@ all_absent-none i ns out = elim (none-or-some (find_in i ns)) [
   | inl none ↦ none
   | inr some ↦ absurd (out (find_in-among i ns (ap is_some some.1)))
 ]
-
-pub child_ids-found : (i : ℕ) (root x : Node) → find i root ≡ Some x → child_ids i root ≡ ids_of (kids_of x)
-child_ids-found i root x h = ap (λ (o : Option Node). unwrap_or (option_map (λ n. ids_of (kids_of n)) o) []) h
 
 -- ---- a node that lived before is found as the insert left it
 

@@ -12,7 +12,8 @@ use Rattle.model_laws.specs.Numbering.{IsWellNumbered, HasRun}
 use Rattle.page_model.specs.Document.{child_ids}
 use Rattle.model_laws.specs.Children.{without, alone}
 use Rattle.model_laws.proofs.NumberingLemmas.{none-or-some, absent-none, among-kept, all_among-kept}
-use Rattle.model_laws.proofs.InsertLemmas.{child_ids-found, id_of-numbered}
+use Rattle.model_laws.proofs.InsertLemmas.{id_of-numbered}
+use Rattle.model_laws.proofs.ParentLemmas.{child_ids-found}
 
 -- ---- a node that is kept is found as the remove left it
 
