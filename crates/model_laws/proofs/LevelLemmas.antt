@@ -91,7 +91,6 @@ level-child root i p d h = elim (none-or-some (parent_in i root)) [
 
 -- ---- heights
 
-
 heights-with_one : (k : ℕ) (new : Node) (ns : Nodes) → heights (with_one k new ns) ≡ max (height new) (heights ns)
 heights-with_one zero new ns = refl
 heights-with_one (suc k) new no_nodes = refl

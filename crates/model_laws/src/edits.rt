@@ -1,12 +1,11 @@
 ghost use Rattle.std.specs.Prelude.{◌≡◌, ◌≢◌, ◌<◌, ◌≤◌, ℕ, suc, ◌+◌, max, nat_lt, Some, None, IsSome, option_map};
 ghost use Rattle.page_model.specs.Trees.{Tree, size, depth};
-ghost use Rattle.page_model.specs.Document.{Node, Document, document, numbered, id_of, find, name_at, parent_of, ids, IsAmong, AreDistinct, height, node_count};
+ghost use Rattle.page_model.specs.Document.{Node, Document, document, numbered, id_of, find, child_ids, parent_of, ids, IsAmong, AreDistinct, height, node_count};
 ghost use Rattle.page_model.specs.Limits.{max_depth};
 ghost use Rattle.page_model.specs.Edits.{after_insert, after_remove, level, insert_refusals, load_refusals};
 ghost use Rattle.page_model.specs.Refusals.{first_of};
 ghost use Rattle.model_laws.specs.Counting.{count_up};
 ghost use Rattle.model_laws.specs.Numbering.{IsWellNumbered, HasRun};
-ghost use Rattle.page_model.specs.Document.{child_ids};
 ghost use Rattle.model_laws.specs.Children.{TakesChildren, IsPlace, with_number, without, alone};
 ghost use Rattle.model_laws.specs.Bounds.{excess};
 
@@ -27,6 +26,8 @@ pub fn an_insert_changes_one_child_list()
     ensures other_lists { (parent index : ℕ) (t : Tree) (d : Document) (j : ℕ) → IsWellNumbered d → j < d.next_id → j ≢ parent → child_ids j (after_insert parent index t d).root ≡ child_ids j d.root }
     ensures new_tree { (parent index : ℕ) (t : Tree) (d : Document) → TakesChildren parent d → find d.next_id (after_insert parent index t d).root ≡ Some (numbered d.next_id t) }
     ensures new_nodes { (parent index : ℕ) (t : Tree) (d : Document) (j : ℕ) → TakesChildren parent d → d.next_id ≤ j → find j (after_insert parent index t d).root ≡ find j (numbered d.next_id t) }
+    ensures new_parent { (parent index : ℕ) (t : Tree) (d : Document) → TakesChildren parent d → parent_of d.next_id (after_insert parent index t d).root ≡ Some parent }
+    ensures parents { (parent index : ℕ) (t : Tree) (d : Document) (j : ℕ) → IsWellNumbered d → j < d.next_id → parent_of j (after_insert parent index t d).root ≡ parent_of j d.root }
     ensures nodes { (parent index : ℕ) (t : Tree) (d : Document) (j : ℕ) → IsWellNumbered d → j < d.next_id → option_map alone (find j (after_insert parent index t d).root) ≡ option_map alone (find j d.root) }
     ensures document_order { (parent index : ℕ) (t : Tree) (d : Document) → TakesChildren parent d → HasRun (ids (after_insert parent index t d).root) (count_up d.next_id (size t)) (ids d.root) }
 {}
@@ -52,6 +53,7 @@ pub fn a_remove_takes_out_a_subtree()
     ensures gone { (i : ℕ) (d : Document) (n : Node) (j : ℕ) → IsWellNumbered d → find i d.root ≡ Some n → i ≢ id_of d.root → IsAmong j (ids n) → find j (after_remove i d).root ≡ None }
     ensures kept { (i : ℕ) (d : Document) (n : Node) (j : ℕ) → IsWellNumbered d → find i d.root ≡ Some n → i ≢ id_of d.root → IsSome (find j d.root) → (IsAmong j (ids n) → ⊥) → IsSome (find j (after_remove i d).root) }
     ensures child_lists { (i : ℕ) (d : Document) (j : ℕ) → IsWellNumbered d → IsSome (find j (after_remove i d).root) → child_ids j (after_remove i d).root ≡ without i (child_ids j d.root) }
+    ensures parents { (i : ℕ) (d : Document) (j : ℕ) → IsWellNumbered d → IsSome (find j (after_remove i d).root) → parent_of j (after_remove i d).root ≡ parent_of j d.root }
     ensures nodes { (i : ℕ) (d : Document) (j : ℕ) → IsWellNumbered d → IsSome (find j (after_remove i d).root) → option_map alone (find j (after_remove i d).root) ≡ option_map alone (find j d.root) }
 {}
 

@@ -1,4 +1,4 @@
-use Rattle.model_laws.proofs.InsertLemmas.{parent-list, other-list, new-found, new-nodes, old-alone, insert-order}
+use Rattle.model_laws.proofs.InsertLemmas.{parent-list, other-list, new-found, new-nodes, new-parent, old-parent, old-alone, insert-order}
 use Rattle.model_laws.proofs.edits.an_insert_changes_one_child_list.Goals as goal
 
 pub returns-clause-child_list : goal.returns-clause-child_list
@@ -12,6 +12,12 @@ returns-clause-new_tree c = λ parent index t d h. new-found parent index t d h.
 
 pub returns-clause-new_nodes : goal.returns-clause-new_nodes
 returns-clause-new_nodes c = λ parent index t d j h high. new-nodes parent index t d j h.0 h.1 high
+
+pub returns-clause-new_parent : goal.returns-clause-new_parent
+returns-clause-new_parent c = λ parent index t d h. new-parent parent index t d h
+
+pub returns-clause-parents : goal.returns-clause-parents
+returns-clause-parents c = λ parent index t d j w low. old-parent parent index t d j w low
 
 pub returns-clause-nodes : goal.returns-clause-nodes
 returns-clause-nodes c = λ parent index t d j w low. old-alone parent index t d j w low
