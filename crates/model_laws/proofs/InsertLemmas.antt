@@ -1,20 +1,21 @@
 -- What is found in a tree after an insert.
-use Rattle.std.proofs.Common.{◌≡◌, ℕ, zero, suc, ◌<◌, ◌≤◌, ◌==◌, List, [], ◌∷◌, false, Option, Some, None, option_map, option_and_then, unwrap_or, is_some, IsSome, refl, sym, ap, ap₂, ◌∙◌, subst, inl, inr, arith, eq-eqb, ne_eqb}
-use Rattle.std.proofs.lemmas.Bool.{cases_Bool, eqb-true, false≢true}
+use Rattle.std.proofs.Common.{[], ◌≡◌, ◌⊎◌, ℕ, zero, suc, ◌<◌, ◌≤◌, ◌==◌, List, ◌∷◌, false, Option, Some, None, option_map, is_some, IsSome, refl, sym, ap, ap₂, ◌∙◌, subst, inl, inr, arith, eq-eqb, ne_eqb}
+use Rattle.std.proofs.lemmas.Bool.{cases_Bool, cases_lt, eqb-true, eqb-false, false≢true}
 use Rattle.std.proofs.lemmas.Option.{same_Some, none-some}
 use Rattle.page_model.specs.Trees.{Tree, elem, characters, size}
-use Rattle.page_model.specs.Document.{Node, element, text, Nodes, no_nodes, node, Document, numbered, id_of, kids_of, ids_of, name_of, name_at, ids, all_ids, find, find_in, or_else, IsAmong, AreDistinct}
+use Rattle.page_model.specs.Document.{Node, element, text, Nodes, no_nodes, node, Document, numbered, id_of, child_ids, parent_of, kids_of, ids_of, name_of, name_at, ids, all_ids, find, find_in, or_else, IsAmong, AreDistinct}
 use Rattle.page_model.specs.Edits.{with_one, inserted, all_inserted, after_insert}
-use Rattle.page_model.proofs.Members.{find-id, among-left, among-right, find_in-among, distinct-left, distinct-right, if-found, or-found}
+use Rattle.page_model.proofs.Members.{find-id, find-part, among-left, among-right, find_in-among, distinct-left, distinct-right, if-found, or-found}
 use Rattle.page_model.proofs.Inserted.{inserted-absent, all_inserted-absent, ids_of-inserted, unfound-absent, found-absent}
 use Rattle.page_model.proofs.Removed.{find-top}
+use Rattle.page_model.proofs.Parents.{kid-below}
 use Rattle.page_model.proofs.Spliced.{Spliced}
 use Rattle.model_laws.specs.Counting.{count_up}
 use Rattle.model_laws.specs.Numbering.{IsWellNumbered, HasRun}
-use Rattle.page_model.specs.Document.{child_ids}
-use Rattle.model_laws.specs.Children.{with_number, alone}
+use Rattle.model_laws.specs.Children.{TakesChildren, with_number, alone}
 use Rattle.model_laws.proofs.CountLemmas.{ids-numbered}
-use Rattle.model_laws.proofs.NumberingLemmas.{among-count_up, none-or-some, named-some, absent-none, some-among, spliced-named}
+use Rattle.model_laws.proofs.ParentLemmas.{child_ids-found, child-node, listed-parent, same-parent}
+use Rattle.model_laws.proofs.NumberingLemmas.{inserted-named, well-inserted, among-count_up, none-or-some, named-some, absent-none, some-among, spliced-named}
 
 -- ---- look-ups
 
@@ -31,9 +32,6 @@ all_absent-none i ns out = elim (none-or-some (find_in i ns)) [
   | inl none ↦ none
   | inr some ↦ absurd (out (find_in-among i ns (ap is_some some.1)))
 ]
-
-pub child_ids-found : (i : ℕ) (root x : Node) → find i root ≡ Some x → child_ids i root ≡ ids_of (kids_of x)
-child_ids-found i root x h = ap (λ (o : Option Node). unwrap_or (option_map (λ n. ids_of (kids_of n)) o) []) h
 
 -- ---- a node that lived before is found as the insert left it
 
@@ -74,18 +72,10 @@ old-found : (parent index : ℕ) (t : Tree) (d : Document) (j : ℕ) → IsWellN
     → find j (after_insert parent index t d).root ≡ option_map (λ x. inserted parent index (numbered d.next_id t) x) (find j d.root)
 old-found parent index t d j w low = find-inserted j parent index (numbered d.next_id t) d.root w.0 (unnumbered-none j d.next_id t low)
 
-name-inserted : (parent index : ℕ) (new : Node) (o : Option Node) → option_and_then name_of (option_map (λ x. inserted parent index new x) o) ≡ option_and_then name_of o
-name-inserted parent index new (Some (element id name attributes kids)) = refl
-name-inserted parent index new (Some (text id cs)) = refl
-name-inserted parent index new None = refl
-
 alone-inserted : (parent index : ℕ) (new : Node) (o : Option Node) → option_map alone (option_map (λ x. inserted parent index new x) o) ≡ option_map alone o
 alone-inserted parent index new (Some (element id name attributes kids)) = refl
 alone-inserted parent index new (Some (text id cs)) = refl
 alone-inserted parent index new None = refl
-
-pub old-name : (parent index : ℕ) (t : Tree) (d : Document) (j : ℕ) → IsWellNumbered d → j < d.next_id → name_at j (after_insert parent index t d).root ≡ name_at j d.root
-old-name parent index t d j w low = ap (option_and_then name_of) (old-found parent index t d j w low) ∙ name-inserted parent index (numbered d.next_id t) (find j d.root)
 
 pub old-alone : (parent index : ℕ) (t : Tree) (d : Document) (j : ℕ) → IsWellNumbered d → j < d.next_id → option_map alone (find j (after_insert parent index t d).root) ≡ option_map alone (find j d.root)
 old-alone parent index t d j w low = ap (option_map alone) (old-found parent index t d j w low) ∙ alone-inserted parent index (numbered d.next_id t) (find j d.root)
@@ -181,3 +171,80 @@ pub insert-order : (parent index : ℕ) (t : Tree) (d : Document) → IsWellNumb
 insert-order parent index t d w h =
     let s : Spliced (ids (after_insert parent index t d).root) (count_up d.next_id (size t)) (ids d.root) = spliced-named parent index d.next_id t d.root w.0 h in
     (s.front, (s.back, s.whole_is, s.rest_is))
+
+-- ---- the parents
+
+new-listed : (index x : ℕ) (xs : List ℕ) → IsAmong x (with_number index x xs)
+new-listed zero x xs = inl refl
+new-listed (suc k) x [] = inl refl
+new-listed (suc k) x (y ∷ ys) = inr (new-listed k x ys)
+
+old-listed : (j index x : ℕ) (xs : List ℕ) → IsAmong j xs → IsAmong j (with_number index x xs)
+old-listed j zero x xs h = inr h
+old-listed j (suc k) x [] h = absurd h
+old-listed j (suc k) x (y ∷ ys) (inl e) = inl e
+old-listed j (suc k) x (y ∷ ys) (inr h) = inr (old-listed j k x ys h)
+
+listed-old : (j index x : ℕ) (xs : List ℕ) → IsAmong j (with_number index x xs) → (j ≡ x) ⊎ IsAmong j xs
+listed-old j zero x xs h = h
+listed-old j (suc k) x [] h = h
+listed-old j (suc k) x (y ∷ ys) (inl e) = inr (inl e)
+listed-old j (suc k) x (y ∷ ys) (inr h) = elim (listed-old j k x ys h) [
+  | inl e ↦ inl e
+  | inr m ↦ inr (inr m)
+]
+
+pub new-parent : (parent index : ℕ) (t : Tree) (d : Document) → TakesChildren parent d → parent_of d.next_id (after_insert parent index t d).root ≡ Some parent
+new-parent parent index t d k =
+    listed-parent (after_insert parent index t d).root d.next_id parent (well-inserted parent index t d k.0).0
+    (subst (IsAmong d.next_id) (sym (parent-list parent index t d k.0 k.1)) (new-listed index d.next_id (child_ids parent d.root)))
+
+-- an old list has the same old nodes
+list-kept : (parent index : ℕ) (t : Tree) (d : Document) (j p : ℕ) → TakesChildren parent d → IsAmong j (child_ids p d.root) → IsAmong j (child_ids p (after_insert parent index t d).root)
+list-kept parent index t d j p k h =
+    let x = child-node d.root j p h in
+    let low : p < d.next_id = k.0.1 p (some-among p d.root x.0 x.1) in
+    elim (cases_Bool (p == parent)) [
+      | inl e ↦
+          let same : child_ids p (after_insert parent index t d).root ≡ with_number index d.next_id (child_ids p d.root) =
+          subst (λ (q : ℕ). child_ids q (after_insert parent index t d).root ≡ with_number index d.next_id (child_ids q d.root)) (sym (eqb-true p parent e)) (parent-list parent index t d k.0 k.1) in
+          subst (IsAmong j) (sym same) (old-listed j index d.next_id (child_ids p d.root) h)
+      | inr f ↦ subst (IsAmong j) (sym (other-list parent index t d p k.0 low (eqb-false p parent f))) h
+    ]
+
+list-had : (parent index : ℕ) (t : Tree) (d : Document) (j p : ℕ) → TakesChildren parent d → j < d.next_id → p < d.next_id → IsAmong j (child_ids p (after_insert parent index t d).root) → IsAmong j (child_ids p d.root)
+list-had parent index t d j p k old low h = elim (cases_Bool (p == parent)) [
+  | inl e ↦
+      let same : child_ids p (after_insert parent index t d).root ≡ with_number index d.next_id (child_ids p d.root) =
+      subst (λ (q : ℕ). child_ids q (after_insert parent index t d).root ≡ with_number index d.next_id (child_ids q d.root)) (sym (eqb-true p parent e)) (parent-list parent index t d k.0 k.1) in
+      elim (listed-old j index d.next_id (child_ids p d.root) (subst (IsAmong j) same h)) [
+        | inl e ↦ absurd (omega (arith, e, old))
+        | inr m ↦ m
+      ]
+  | inr f ↦ subst (IsAmong j) (other-list parent index t d p k.0 low (eqb-false p parent f)) h
+]
+
+-- a list of a new node has no old one
+list-new : (parent index : ℕ) (t : Tree) (d : Document) (j p : ℕ) → TakesChildren parent d → j < d.next_id → d.next_id ≤ p → IsAmong j (child_ids p (after_insert parent index t d).root) → ⊥
+list-new parent index t d j p k old high h =
+    let new : Node = numbered d.next_id t in
+    let x = child-node (after_insert parent index t d).root j p h in
+    let at : find p new ≡ Some x.0 = sym (new-nodes parent index t d p k.0 k.1 high) ∙ x.1 in
+    let there : IsAmong j (ids new) = find-part p new x.0 j at (kid-below j x.0 x.2) in
+    let range = among-count_up j d.next_id (size t) (subst (IsAmong j) (ids-numbered d.next_id t) there) in
+    omega (arith, range.0, old)
+
+parent-kept : (parent index : ℕ) (t : Tree) (d : Document) (j : ℕ) → TakesChildren parent d → j < d.next_id → parent_of j (after_insert parent index t d).root ≡ parent_of j d.root
+parent-kept parent index t d j k old =
+    same-parent j (after_insert parent index t d).root d.root (well-inserted parent index t d k.0).0 k.0.0
+    (λ p h. elim (cases_lt p d.next_id) [
+      | inl low ↦ list-had parent index t d j p k old low h
+      | inr high ↦ absurd (list-new parent index t d j p k old high h)
+    ])
+    (λ p h. list-kept parent index t d j p k h)
+
+pub old-parent : (parent index : ℕ) (t : Tree) (d : Document) (j : ℕ) → IsWellNumbered d → j < d.next_id → parent_of j (after_insert parent index t d).root ≡ parent_of j d.root
+old-parent parent index t d j w old = elim (inserted-named parent index (numbered d.next_id t) d.root w.0) [
+  | inl e ↦ ap (parent_of j) e
+  | inr h ↦ parent-kept parent index t d j (w, h) old
+]

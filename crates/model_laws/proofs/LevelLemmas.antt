@@ -1,5 +1,5 @@
 -- Levels, and the height of a tree after an insert.
-use Rattle.std.proofs.Common.{◌≡◌, ℕ, zero, suc, ◌+◌, ◌<◌, ◌≤◌, ◌==◌, max, nat_lt, List, [], ◌∷◌, length, Bool, false, cond, Option, Some, None, option_map, option_and_then, unwrap_or, is_some, is_none, IsSome, refl, sym, ap, ap₂, ◌∙◌, subst, inl, inr, arith, eq-eqb, ne_eqb, lt-ltb, le-ltb, ltb-true, ltb-false}
+use Rattle.std.proofs.Common.{◌≡◌, ℕ, zero, suc, ◌+◌, ◌<◌, ◌≤◌, ◌==◌, max, nat_lt, List, [], ◌∷◌, length, Bool, false, cond, Option, Some, None, option_map, option_and_then, unwrap_or, is_some, is_none, IsSome, refl, sym, ap, ap₂, ◌∙◌, inl, inr, arith, eq-eqb, lt-ltb, le-ltb, ltb-true, ltb-false}
 use Rattle.std.proofs.lemmas.Bool.{cases_Bool, false≢true}
 use Rattle.std.proofs.lemmas.Option.{same_Some, none-some}
 use Rattle.page_model.specs.Trees.{Tree, size, depth}
@@ -8,7 +8,7 @@ use Rattle.page_model.specs.Limits.{max_depth, max_nodes, max_ids}
 use Rattle.page_model.specs.Refusals.{Refusal, Causes, first_of, no_node, not_element, bad_index, depth_limit, node_limit, id_limit}
 use Rattle.page_model.specs.Edits.{inserted, all_inserted, with_one, after_insert, level, level_in, child_count, tree_refusals, insert_refusals, load_refusals}
 use Rattle.page_model.proofs.Numbered.{height-numbered}
-use Rattle.page_model.proofs.Members.{among-left, among-right, among-kids, among-find, find-among, is_among-true, distinct-left, distinct-right, distinct-apart, if-found, or-found}
+use Rattle.page_model.proofs.Members.{among-kids, among-find, find-among, is_among-true, distinct-left, distinct-right, distinct-apart, if-found, or-found}
 use Rattle.page_model.proofs.Spliced.{Spliced, spliced-length}
 use Rattle.page_model.proofs.Levels.{level-found, level-element}
 use Rattle.page_model.proofs.Inserted.{inserted-absent, all_inserted-absent}
@@ -17,6 +17,7 @@ use Rattle.model_laws.specs.Numbering.{IsWellNumbered}
 use Rattle.model_laws.specs.Children.{IsPlace}
 use Rattle.model_laws.specs.Bounds.{excess}
 use Rattle.model_laws.proofs.CountLemmas.{ids-numbered}
+use Rattle.model_laws.proofs.ParentLemmas.{among-other, parent-among, all_parent-among}
 use Rattle.model_laws.proofs.NumberingLemmas.{count_up-length, none-or-some, named-some, spliced-named}
 
 -- ---- levels
@@ -45,25 +46,6 @@ level_in-kid i (node n ns) d (inl e) = let top : level i n ≡ Some 1 = ap (λ (
 level_in-kid i (node n ns) d (inr h) =
     let none : level i n ≡ None = level-absent i n (λ k. distinct-apart i (ids n) (all_ids ns) d k (among-kids i ns h)) in
     rw none (level_in-kid i ns (distinct-right (ids n) (all_ids ns) d) h)
-
--- a child and its parent are among the numbers
-mutual
-  parent-among : (i : ℕ) (n x : Node) → parent_in i n ≡ Some x → IsAmong i (ids n) × IsAmong (id_of x) (ids n)
-  parent-among i (element id name attributes kids) x h = elim (if-found (is_among i (ids_of kids)) (element id name attributes kids) x (parent_below i kids) h) [
-    | inl k ↦ (inr (among-kids i kids (is_among-true i (ids_of kids) k.0)), inl (sym (ap id_of (same_Some (element id name attributes kids) x k.1))))
-    | inr k ↦ let both = all_parent-among i kids x k.1 in (inr both.0, inr both.1)
-  ]
-  parent-among i (text id cs) x h = absurd (none-some x h)
-
-  all_parent-among : (i : ℕ) (ns : Nodes) (x : Node) → parent_below i ns ≡ Some x → IsAmong i (all_ids ns) × IsAmong (id_of x) (all_ids ns)
-  all_parent-among i no_nodes x h = absurd (none-some x h)
-  all_parent-among i (node n ns) x h = elim (or-found (parent_in i n) (parent_below i ns) x h) [
-    | inl k ↦ let both = parent-among i n x k in (among-left i (ids n) (all_ids ns) both.0, among-left (id_of x) (ids n) (all_ids ns) both.1)
-    | inr k ↦ let both = all_parent-among i ns x k.1 in (among-right i (ids n) (all_ids ns) both.0, among-right (id_of x) (ids n) (all_ids ns) both.1)
-  ]
-
-among-other : (i id : ℕ) (xs : List ℕ) → AreDistinct (id ∷ xs) → IsAmong i xs → (i == id) ≡ false
-among-other i id xs d h = ne_eqb i id (λ e. d.0 (subst (λ (k : ℕ). IsAmong k xs) e h))
 
 -- a child stands one level below its parent
 mutual
@@ -108,7 +90,6 @@ level-child root i p d h = elim (none-or-some (parent_in i root)) [
 ]
 
 -- ---- heights
-
 
 heights-with_one : (k : ℕ) (new : Node) (ns : Nodes) → heights (with_one k new ns) ≡ max (height new) (heights ns)
 heights-with_one zero new ns = refl
@@ -202,15 +183,15 @@ some-not-none : {X : Type 0} (o : Option X) → IsSome o → is_none o ≡ false
 some-not-none (Some x) h = refl
 some-not-none None h = absurd (false≢true h)
 
-pub insert-refused : (parent index : ℕ) (t : Tree) (d : Document) → IsWellNumbered d → IsPlace parent index d → height d.root ≤ max_depth
+pub insert-refused : (parent index : ℕ) (t : Tree) (d : Document) → IsPlace parent index d → height d.root ≤ max_depth
     → first_of (insert_refusals parent index t d) ≡ first_of (excess (after_insert parent index t d))
-insert-refused parent index t d w place low =
-    let p = named-some (find parent d.root) place.0 in
+insert-refused parent index t d place low =
+    let p = named-some (find parent d.root) place.0.1 in
     let limits : Causes = tree_refusals (unwrap_or (level parent d.root) 0) (node_count d.root) d.next_id t in
     let few : Causes = (nat_lt (child_count parent d.root) index, bad_index) ∷ limits in
     skipped (is_none (find parent d.root)) no_node ((is_none (name_at parent d.root), not_element) ∷ few) (ap is_none p.1.0)
-    ∙ (skipped (is_none (name_at parent d.root)) not_element few (some-not-none (name_at parent d.root) place.0)
-    ∙ (skipped (nat_lt (child_count parent d.root) index) bad_index limits (le-ltb (child_count parent d.root) index place.1) ∙ ap first_of (insert-excess parent index t d w place.0 low)))
+    ∙ (skipped (is_none (name_at parent d.root)) not_element few (some-not-none (name_at parent d.root) place.0.1)
+    ∙ (skipped (nat_lt (child_count parent d.root) index) bad_index limits (le-ltb (child_count parent d.root) index place.1) ∙ ap first_of (insert-excess parent index t d place.0.0 place.0.1 low)))
 
 load-excess : (t : Tree) → load_refusals t ≡ excess (document t)
 load-excess t =

@@ -51,7 +51,7 @@ some-among i n x h = find-among i n (ap is_some h)
 
 -- it changes nothing, or the parent is an element
 mutual
-  inserted-named : (parent index : ℕ) (new n : Node) → AreDistinct (ids n) → (inserted parent index new n ≡ n) ⊎ IsSome (name_at parent n)
+  pub inserted-named : (parent index : ℕ) (new n : Node) → AreDistinct (ids n) → (inserted parent index new n ≡ n) ⊎ IsSome (name_at parent n)
   inserted-named parent index new (element id name attributes kids) d = elim (cases_Bool (parent == id)) [
     | inl t ↦ inr (rw t refl)
     | inr f ↦ rw f (elim (all_inserted-named parent index new kids d.1) [
@@ -129,7 +129,7 @@ dead-inserted parent index t d j w low none =
 -- ---- a remove
 
 -- at the root's own number it changes nothing
-removed-top : (n : Node) → AreDistinct (ids n) → removed (id_of n) n ≡ n
+pub removed-top : (n : Node) → AreDistinct (ids n) → removed (id_of n) n ≡ n
 removed-top (element id name attributes kids) d = ap (element id name attributes) (all_removed-absent id kids d.0)
 removed-top (text id cs) d = refl
 

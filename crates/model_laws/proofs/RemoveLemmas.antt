@@ -1,18 +1,20 @@
 -- What is found in a tree after a remove.
-use Rattle.std.proofs.Common.{◌≡◌, ℕ, zero, suc, ◌<◌, ◌==◌, List, ◌∷◌, false, Option, Some, None, option_map, option_and_then, is_some, IsSome, refl, sym, ap, ◌∙◌, subst, inl, inr, arith, eq-eqb, ne_eqb}
-use Rattle.std.proofs.lemmas.Bool.{cases_Bool, eqb-false, false≢true}
+use Rattle.std.proofs.Common.{◌≡◌, [], ℕ, zero, suc, ◌<◌, ◌==◌, List, ◌∷◌, false, Option, Some, None, option_map, is_some, IsSome, refl, sym, ap, ◌∙◌, subst, inl, inr, arith, eq-eqb, ne_eqb}
+use Rattle.std.proofs.lemmas.Bool.{cases_Bool, eqb-true, eqb-false, false≢true}
+use Rattle.std.proofs.lemmas.Option.{same_Some, none-some}
 use Rattle.page_model.specs.Trees.{Tree}
-use Rattle.page_model.specs.Document.{Node, element, text, Nodes, no_nodes, node, Document, numbered, id_of, kids_of, ids_of, name_of, name_at, ids, all_ids, find, find_in, IsAmong, AreDistinct}
+use Rattle.page_model.specs.Document.{Node, element, text, Nodes, no_nodes, node, Document, numbered, id_of, child_ids, parent_of, kids_of, ids_of, ids, all_ids, find, find_in, IsAmong, AreDistinct}
 use Rattle.page_model.specs.Edits.{with_one, inserted, all_inserted, removed, all_removed, after_insert, after_remove}
-use Rattle.page_model.proofs.Members.{among-left, among-right, among-split, among-top, among-find, find-among, distinct-left, distinct-right, distinct-apart}
+use Rattle.page_model.proofs.Members.{if-found, or-found, find-id, find-part, find_in-part, among-left, among-right, among-split, among-top, among-find, find-among, distinct-left, distinct-right, distinct-apart}
 use Rattle.page_model.proofs.Spliced.{Spliced, spliced-among, part-apart}
-use Rattle.page_model.proofs.Inserted.{id_of-inserted}
+use Rattle.page_model.proofs.Inserted.{id_of-inserted, unfound-absent}
+use Rattle.page_model.proofs.Parents.{kid-below}
 use Rattle.page_model.proofs.Removed.{id_of-removed, removed-absent, all_removed-absent, ids-removed}
 use Rattle.model_laws.specs.Numbering.{IsWellNumbered, HasRun}
-use Rattle.page_model.specs.Document.{child_ids}
 use Rattle.model_laws.specs.Children.{without, alone}
-use Rattle.model_laws.proofs.NumberingLemmas.{none-or-some, absent-none, among-kept, all_among-kept}
-use Rattle.model_laws.proofs.InsertLemmas.{child_ids-found, id_of-numbered}
+use Rattle.model_laws.proofs.NumberingLemmas.{removed-top, well-removed, none-or-some, absent-none, among-kept, all_among-kept}
+use Rattle.model_laws.proofs.InsertLemmas.{id_of-numbered}
+use Rattle.model_laws.proofs.ParentLemmas.{among-other, child_ids-found, child-node, same-parent}
 
 -- ---- a node that is kept is found as the remove left it
 
@@ -56,18 +58,10 @@ mutual
 kept-found : (i : ℕ) (d : Document) (j : ℕ) → IsWellNumbered d → IsSome (find j (after_remove i d).root) → find j (after_remove i d).root ≡ option_map (λ x. removed i x) (find j d.root)
 kept-found i d j w h = find-removed i j d.root w.0 (find-among j (after_remove i d).root h)
 
-name-removed : (i : ℕ) (o : Option Node) → option_and_then name_of (option_map (λ x. removed i x) o) ≡ option_and_then name_of o
-name-removed i (Some (element id name attributes kids)) = refl
-name-removed i (Some (text id cs)) = refl
-name-removed i None = refl
-
 alone-removed : (i : ℕ) (o : Option Node) → option_map alone (option_map (λ x. removed i x) o) ≡ option_map alone o
 alone-removed i (Some (element id name attributes kids)) = refl
 alone-removed i (Some (text id cs)) = refl
 alone-removed i None = refl
-
-pub kept-name : (i : ℕ) (d : Document) (j : ℕ) → IsWellNumbered d → IsSome (find j (after_remove i d).root) → name_at j (after_remove i d).root ≡ name_at j d.root
-kept-name i d j w h = ap (option_and_then name_of) (kept-found i d j w h) ∙ name-removed i (find j d.root)
 
 pub kept-alone : (i : ℕ) (d : Document) (j : ℕ) → IsWellNumbered d → IsSome (find j (after_remove i d).root) → option_map alone (find j (after_remove i d).root) ≡ option_map alone (find j d.root)
 kept-alone i d j w h = ap (option_map alone) (kept-found i d j w h) ∙ alone-removed i (find j d.root)
@@ -111,6 +105,84 @@ kept-some i d n j w h other live out =
       | inl k ↦ absurd (out k)
       | inr k ↦ among-find j (after_remove i d).root k
     ]
+
+-- ---- the parents
+
+mutual
+  -- what is found below a node that is found is what is found in all
+  find-within : (i p : ℕ) (n x : Node) → AreDistinct (ids n) → find i n ≡ Some x → IsAmong p (ids x) → find p n ≡ find p x
+  find-within i p (element id name attributes kids) x d h k = elim (if-found (i == id) (element id name attributes kids) x (find_in i kids) h) [
+    | inl a ↦ ap (find p) (same_Some (element id name attributes kids) x a.1)
+    | inr a ↦
+        let other : (p == id) ≡ false = among-other p id (all_ids kids) d (find_in-part i kids x p a.1 k) in
+        rw other (find_in-within i p kids x d.1 a.1 k)
+  ]
+  find-within i p (text id cs) x d h k = elim (if-found (i == id) (text id cs) x None h) [
+    | inl a ↦ ap (find p) (same_Some (text id cs) x a.1)
+    | inr a ↦ absurd (none-some x a.1)
+  ]
+
+  find_in-within : (i p : ℕ) (ns : Nodes) (x : Node) → AreDistinct (all_ids ns) → find_in i ns ≡ Some x → IsAmong p (ids x) → find_in p ns ≡ find p x
+  find_in-within i p no_nodes x d h k = absurd (none-some x h)
+  find_in-within i p (node n ns) x d h k = elim (or-found (find i n) (find_in i ns) x h) [
+    | inl a ↦
+        let same : find p n ≡ find p x = find-within i p n x (distinct-left (ids n) (all_ids ns) d) a k in
+        elim (none-or-some (find p x)) [
+          | inl none ↦ absurd (unfound-absent p x none k)
+          | inr some ↦ let here : find p n ≡ Some some.0 = same ∙ some.1 in rw (here, some.1) refl
+        ]
+    | inr a ↦
+        let there : IsAmong p (all_ids ns) = find_in-part i ns x p a.1 k in
+        let none : find p n ≡ None = absent-none p n (λ m. distinct-apart p (ids n) (all_ids ns) d m there) in
+        rw none (find_in-within i p ns x (distinct-right (ids n) (all_ids ns) d) a.1 k)
+  ]
+
+without-listed : (j i : ℕ) (xs : List ℕ) → IsAmong j (without i xs) → IsAmong j xs
+without-listed j i [] h = h
+without-listed j i (x ∷ xs) h = elim (cases_Bool (i == x)) [
+  | inl t ↦ inr (without-listed j i xs (rw t at h))
+  | inr f ↦ elim (rw f at h) [
+    | inl e ↦ inl e
+    | inr k ↦ inr (without-listed j i xs k)
+  ]
+]
+
+listed-without : (j i : ℕ) (xs : List ℕ) → (j ≡ i → ⊥) → IsAmong j xs → IsAmong j (without i xs)
+listed-without j i [] other h = h
+listed-without j i (x ∷ xs) other (inl e) = rw (ne_eqb i x (λ k. other (e ∙ sym k))) (inl e)
+listed-without j i (x ∷ xs) other (inr h) = elim (cases_Bool (i == x)) [
+  | inl t ↦ rw t (listed-without j i xs other h)
+  | inr f ↦ rw f (inr (listed-without j i xs other h))
+]
+
+-- a list of what is left has what the old one had
+list-had : (i : ℕ) (d : Document) (j p : ℕ) → IsWellNumbered d → IsAmong j (child_ids p (after_remove i d).root) → IsAmong j (child_ids p d.root)
+list-had i d j p w h =
+    let x = child-node (after_remove i d).root j p h in
+    without-listed j i (child_ids p d.root) (subst (IsAmong j) (kept-list i d p w (ap is_some x.1)) h)
+
+-- and what is left of the old one
+list-kept : (i : ℕ) (d : Document) (n : Node) (j p : ℕ) → IsWellNumbered d → find i d.root ≡ Some n → (i ≡ id_of d.root → ⊥) → IsSome (find j (after_remove i d).root)
+    → IsAmong j (child_ids p d.root) → IsAmong j (child_ids p (after_remove i d).root)
+list-kept i d n j p w at other live h =
+    let x = child-node d.root j p h in
+    let out : IsAmong j (ids n) → ⊥ = λ a. false≢true (sym (ap is_some (gone-none i d n j w at other a)) ∙ live) in
+    let above : IsAmong p (ids n) → ⊥ = λ a.
+    out (find-part p n x.0 j (sym (find-within i p d.root n w.0 at a) ∙ x.1) (kid-below j x.0 x.2)) in
+    let not_top : j ≡ i → ⊥ = λ e. out (subst (λ (k : ℕ). IsAmong k (ids n)) (sym (e ∙ find-id i d.root n at)) (among-top n)) in
+    let left : IsSome (find p (after_remove i d).root) = kept-some i d n p w at other (ap is_some x.1) above in
+    subst (IsAmong j) (sym (kept-list i d p w left)) (listed-without j i (child_ids p d.root) not_top h)
+
+pub kept-parent : (i : ℕ) (d : Document) (j : ℕ) → IsWellNumbered d → IsSome (find j (after_remove i d).root) → parent_of j (after_remove i d).root ≡ parent_of j d.root
+kept-parent i d j w live = elim (cases_Bool (i == id_of d.root)) [
+  | inl t ↦ ap (parent_of j) (ap (λ (k : ℕ). removed k d.root) (eqb-true i (id_of d.root) t) ∙ removed-top d.root w.0)
+  | inr f ↦ elim (none-or-some (find i d.root)) [
+    | inl none ↦ ap (parent_of j) (removed-absent i d.root (unfound-absent i d.root none))
+    | inr some ↦
+        same-parent j (after_remove i d).root d.root (well-removed i d w).0 w.0 (λ p h. list-had i d j p w h)
+        (λ p h. list-kept i d some.0 j p w some.1 (eqb-false i (id_of d.root) f) live h)
+  ]
+]
 
 -- ---- an insert and its remove
 

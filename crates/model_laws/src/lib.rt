@@ -8,7 +8,9 @@ mod lines;
 mod replies;
 
 pub use boxes::{one_assignment, some_assignment};
-pub use documents::numbers_count_up;
+pub use documents::{
+    a_child_is_in_the_list_of_its_parent, numbers_count_up, siblings_stand_side_by_side,
+};
 pub use edits::{
     a_level_counts_from_the_root, a_number_is_given_once, a_remove_takes_out_a_subtree,
     a_remove_undoes_an_insert, an_insert_changes_one_child_list,
