@@ -11,6 +11,13 @@ abbrev pub IsHindrance : Option Refusal → Hindrance → Type 0
 IsHindrance refusal (Refused r) = refusal ≡ Some (refusal_view r)
 IsHindrance refusal NoMemory = Unit {0}
 
+-- a refusal hinders, and where there is none it is memory that is wanting
+abbrev pub Becomes : Option Refusal → Hindrance → Type 0
+Becomes (Some refusal) (Refused r) = refusal_view r ≡ refusal
+Becomes (Some refusal) NoMemory = ⊥
+Becomes None (Refused r) = ⊥
+Becomes None NoMemory = Unit {0}
+
 -- an edit is carried out only where it is not refused
 abbrev pub IsDecided : {X : Type 0} → Option Refusal → Result X Hindrance → Type 0
 IsDecided refusal (Ok x) = refusal ≡ None

@@ -1,5 +1,5 @@
 //! Carrying out edits.
-ghost use Rattle.std.specs.Prelude.{◌≡◌, OnOk, OnErr, IfOk, IfErr, Some, None, [], unwrap_or};
+ghost use Rattle.std.specs.Prelude.{◌≡◌, ◌≢◌, OnOk, OnErr, IfOk, IfErr, Some, None, [], unwrap_or};
 ghost use Rattle.page_model.specs.Pages.{State};
 ghost use Rattle.page_model.specs.Refusals.{first_of};
 ghost use Rattle.page_model.specs.Edits.{insert_refusals, remove_refusals, after_insert, after_remove};
@@ -10,7 +10,7 @@ ghost use Rattle.dom_arena.specs.Shape.{shape};
 ghost use Rattle.dom_arena.specs.Faults.{refusal_in};
 ghost use Rattle.relayout_requests.specs.Views.{refusal_view, load_view};
 ghost use Rattle.relayout_cli.specs.Pages.{page_view};
-ghost use Rattle.relayout_cli.specs.Edits.{IsHindrance, IsDecided};
+ghost use Rattle.relayout_cli.specs.Edits.{Becomes, IsDecided};
 ghost use Rattle.relayout_cli.specs.declared.edits.Hindrance.TheVariants.{NoMemory as no_memory, Refused as refused};
 ghost use Rattle.relayout_requests.specs.declared.refusal.Refusal.TheVariants.{NoNode as no_such_node};
 ghost use Rattle.page_model.specs.Document.{find};
@@ -40,7 +40,7 @@ impl From<NoMemory> for Hindrance {
 }
 
 impl From<DocFault> for Hindrance {
-    ghost from_gives = { λ fault h. IsHindrance (refusal_in fault) h };
+    ghost from_gives = { λ fault h. Becomes (refusal_in fault) h };
 
     fn from(fault: DocFault) -> Hindrance {
         match fault {
@@ -101,6 +101,7 @@ pub fn insert_into(document: &mut Doc, insert: &Insert) -> Result<(), Hindrance>
 pub fn remove_from(document: &mut Doc, id: u64) -> Result<(), Hindrance>
     ensures document { OnOk result (document.new ≡ after_remove id document.old) }
     ensures decided { IsDecided (first_of (remove_refusals id document.old)) result }
+    ensures without_memory { IfErr result (λ h. h ≢ no_memory) }
     ensures kept { OnErr result (document.new ≡ document.old) }
 {
     let id = node_number(document, id)?;
