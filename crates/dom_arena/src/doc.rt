@@ -52,7 +52,7 @@ impl Model for Doc {
 impl Doc {
     /// The document of a tree, whose nodes get the numbers from 0 on in document order.
     ///
-    /// Refused with `DepthLimit` where a node stands deeper than 96, and with `NodeLimit` where there are more than 20,000 nodes. Its time is linear in the number of nodes, also where it refuses, and its recursion at most 97 deep.
+    /// Refused with `DepthLimit` where a node stands deeper than 96, and with `NodeLimit` where there are more than 20,000 nodes. Its time is linear in the number of nodes, also where it refuses, and its recursion as deep as the tree, at most 96 levels.
     pub fn new(alloc: Global, tree: &Tree) -> Result<Doc, DocFault>
         requires element { is_elem (shape tree.now) ≡ true }
         ensures document { IfOk result (λ doc. doc ≡ document (shape tree.now)) }

@@ -64,7 +64,7 @@ mutual
 
 -- ---- what is found below the parent is what is found
 
-or-first : {X : Type 0} (o p : Option X) → is_some o ≡ true → or_else o p ≡ o
+pub or-first : {X : Type 0} (o p : Option X) → is_some o ≡ true → or_else o p ≡ o
 or-first (Some x) p h = refl
 or-first None p h = absurd (false≢true h)
 
