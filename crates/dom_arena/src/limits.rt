@@ -20,7 +20,7 @@ const MAX_IDS: u32 = 100_000;
 
 /// Whether a new tree may stand below a node of this level, where so many nodes live and so many numbers were given.
 ///
-/// The depth is asked first, as that is the first refusal, and for it all of a tree may be read that is not too deep; the counts stop at their limits.
+/// The depth is asked first, as that is the first refusal, and for it all of a tree may be read that is not too deep. The nodes are counted once, as far as the room that the node limit leaves.
 pub fn check(tree: &Tree, above: u32, live: u32, given: u32) -> Result<(), DocFault>
     requires above { above ≤ max_depth }
     requires live { live ≤ max_nodes }

@@ -9,9 +9,9 @@ ghost use Rattle.relayout_cli.specs.Walk.{node_at, nodes_at, Reaches, AllReach};
 ghost use Rattle.relayout_cli.specs.Flat.{frame_view, all_flat};
 
 use crate::boxes::Frame;
-use crate::page::{MAX_DEPTH, Page, width_in_units};
+use crate::page::{Page, width_in_units};
 use crate::replies::{push_field, push_ok};
-use dom_arena::{Children, Doc};
+use dom_arena::{Children, Doc, MAX_DEPTH};
 use itoa::Buffer;
 use port_core::{NoMemory, NodeId};
 use units64::Units;

@@ -1,5 +1,5 @@
 //! Carrying out edits.
-ghost use Rattle.std.specs.Prelude.{◌≡◌, ◌≢◌, OnOk, OnErr, IfOk, IfErr, Some, None, [], unwrap_or};
+ghost use Rattle.std.specs.Prelude.{◌≡◌, ◌≢◌, OnOk, OnErr, IfOk, IfErr, Some, None};
 ghost use Rattle.page_model.specs.Pages.{State};
 ghost use Rattle.page_model.specs.Refusals.{first_of};
 ghost use Rattle.page_model.specs.Edits.{insert_refusals, remove_refusals, after_insert, after_remove};
@@ -18,7 +18,7 @@ ghost use Rattle.page_model.specs.Document.{find};
 use crate::page::{Page, Viewport};
 use crate::plain::is_plain_tree;
 use dom_arena::{Doc, DocFault};
-use port_core::{NoMemory, NodeId, Seq, Text};
+use port_core::{NoMemory, NodeId, Seq};
 use relayout_requests::{Insert, Load, Refusal};
 use std::alloc::Global;
 
@@ -71,19 +71,9 @@ pub fn load_page(alloc: Global, load: Load) -> Result<Page, Hindrance>
     let document = Doc::new(alloc, &load.doc)?;
     Ok(Page {
         document,
-        sheets: sheets_or_none(alloc, load.sheets),
+        sheets: Seq::new(alloc),
         viewport,
     })
-}
-
-/// The style sheets that were given, or none.
-fn sheets_or_none(alloc: Global, sheets: Option<Seq<Text>>) -> Seq<Text>
-    ensures { result ≡ unwrap_or sheets [] }
-{
-    match sheets {
-        Some(texts) => texts,
-        None => Seq::new(alloc),
-    }
 }
 
 /// Puts the tree of an insert into a document.

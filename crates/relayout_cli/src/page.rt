@@ -9,9 +9,6 @@ use units64::Units;
 /// The most pixels that a viewport's side has.
 const MAX_SIDE: u64 = 10_000;
 
-/// The deepest level of a document, where the root stands at 1.
-pub const MAX_DEPTH: u32 = 96;
-
 /// How many units a pixel has.
 const UNITS_PER_PIXEL: i64 = 64;
 

@@ -114,6 +114,29 @@ fn expect_remove(rt: &impl Abort, doc: &mut Doc, id: NodeId, answer: Result<(), 
     assert_eq!(rt; doc.remove(id), answer);
 }
 
+/// Asserts that an insert of a tree of five nodes succeeds, or finds no memory and leaves a document of a root with four texts as it was.
+fn expect_insert_or_no_change(rt: &impl Abort, doc: &mut Doc, tree: &Tree) {
+    match doc.insert(0, 1, tree) {
+        Ok(id) => assert_eq!(rt; id, 5),
+        Err(fault) => {
+            assert_eq!(rt; fault, DocFault::NoMemory);
+            expect_root_with_four_texts(rt, doc);
+        }
+    }
+}
+
+/// Asserts each number of a root with four texts. It takes no memory.
+fn expect_root_with_four_texts(rt: &impl Abort, doc: &Doc) {
+    assert_eq!(rt; doc.next_id(), 5);
+    assert!(rt; !doc.is_live(5));
+    assert_eq!(rt; child_count(doc, 0), 4);
+    expect_node(rt, doc, 0, Some("div"), [None, Some(1), None, None]);
+    expect_node(rt, doc, 1, None, [Some(0), None, Some(2), None]);
+    expect_node(rt, doc, 2, None, [Some(0), None, Some(3), Some(1)]);
+    expect_node(rt, doc, 3, None, [Some(0), None, Some(4), Some(2)]);
+    expect_node(rt, doc, 4, None, [Some(0), None, None, Some(3)]);
+}
+
 /// Asserts the children of a node.
 fn expect_children(
     rt: &impl Abort,
@@ -263,6 +286,22 @@ fn refused_inserts(rt: HostRuntime) -> Result<(), Fail> {
     }
     expect_children(&rt, rt.alloc(), &doc, 2, &[3, 4])?;
     assert_eq!(rt; doc.next_id(), 7);
+    Ok(())
+}
+
+/// Each allocation of the insert can be refused: `rt try --test --fail-alloc N`.
+#[test]
+fn a_refused_insert_changes_nothing(rt: HostRuntime) -> Result<(), Fail> {
+    let Ok(four) = texts(rt.alloc(), 4) else {
+        return Ok(());
+    };
+    let Ok(tree) = list(rt.alloc()) else {
+        return Ok(());
+    };
+    let Ok(mut doc) = Doc::new(rt.alloc(), &four) else {
+        return Ok(());
+    };
+    expect_insert_or_no_change(&rt, &mut doc, &tree);
     Ok(())
 }
 
