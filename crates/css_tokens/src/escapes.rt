@@ -6,8 +6,7 @@ ghost use Rattle.css_tokens.specs.declared.escapes.Part.TheVariants as part;
 ghost use Rattle.css_tokens.specs.Kept.{kept, length_of, meaning_of, is_allowed, starts_name, is_hyphen_alone};
 
 use super::classes::{
-    Class, is_digit, is_hex_digit, is_ident_char, is_ident_start, is_non_printable, is_quote,
-    is_whitespace,
+    Class, is_ident_char, is_ident_start, is_non_printable, is_quote, is_whitespace,
 };
 use super::runs::{behind, one, run};
 
@@ -157,7 +156,7 @@ fn escape_at(rest: &[char]) -> Part
         [c, ..] => {
             if *c == '\n' {
                 Part::EscapedNewline
-            } else if is_hex_digit(*c) {
+            } else if c.is_ascii_hexdigit() {
                 hex_escape_at(rest)
             } else {
                 Part::Escaped(*c)
@@ -203,7 +202,7 @@ fn hex_digit_value(c: char) -> u32
     ensures small { result < 2 ^ 21 }
 {
     let code = c as u32;
-    if is_digit(c) {
+    if c.is_ascii_digit() {
         code - 48
     } else if c <= 'F' {
         code.saturating_sub(55)
