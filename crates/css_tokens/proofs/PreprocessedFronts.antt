@@ -1,7 +1,7 @@
 -- A text is preprocessed character by character.
-use Rattle.std.proofs.Common.{◌≡◌, ◌∙◌, sym, ap, refl, ℕ, ◌==◌, ◌&&◌, ◌||◌, [], ◌∷◌, ◌++◌, true, false, Bool, eqb-true, inl, inr}
+use Rattle.std.proofs.Common.{◌≡◌, ◌∙◌, sym, ap, refl, ℕ, ◌==◌, ◌&&◌, [], ◌∷◌, ◌++◌, true, false, eqb-true, inl, inr}
 use Rattle.std.proofs.lemmas.Bool.{cases_Bool, false≢true}
-use Rattle.css_model.specs.Classes.{Text, is_newline, newline, begins}
+use Rattle.css_model.specs.Classes.{Text, is_newline, newline}
 use Rattle.css_model.specs.Preprocessing.{carriage_return, replaced, preprocessed}
 use Rattle.css_tokens.specs.Replacing.{kept_behind, last_behind}
 

@@ -36,7 +36,7 @@ pub enum Part {
     Itself(char),
     /// A backslash and the character that it stands for.
     Escaped(char),
-    /// A backslash and a code: its character, and how many characters spell it.
+    /// A backslash and the hex digits of a character's number: that character, and how many characters spell it.
     HexEscape(char, usize),
     /// A backslash and a newline.
     EscapedNewline,
@@ -115,7 +115,7 @@ impl Place {
         }
     }
 
-    /// Whether a backslash may stand before a newline here.
+    /// Whether an escaped newline may stand here.
     fn allows_escaped_newline(self) -> bool
         ensures { result ≡ is_allowed self part.EscapedNewline }
     {
@@ -165,7 +165,7 @@ fn escape_at(rest: &[char]) -> Part
     }
 }
 
-/// The code of which this stands behind the backslash: up to six hex digits, and one whitespace.
+/// The hex escape of which this stands behind the backslash: up to six hex digits, and one whitespace character.
 fn hex_escape_at(rest: &[char]) -> Part
     ensures { result ≡ kept (hex_escape_in rest.now) }
 {
