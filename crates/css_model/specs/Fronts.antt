@@ -22,7 +22,7 @@ hex_digits_in zero cs = []
 hex_digits_in (suc n) [] = []
 hex_digits_in (suc n) (c ∷ cs) = if is_hex_digit c then c ∷ hex_digits_in n cs else []
 
--- the code in front of a text, with the whitespace behind its digits
+-- the hex escape of which this stands behind the backslash, with one whitespace character behind its digits
 abbrev pub hex_escape_in : Text → Part
 hex_escape_in cs = hex_escape (hex_digits_in 6 cs) (one_in is_whitespace (drop (length (hex_digits_in 6 cs)) cs))
 

@@ -9,7 +9,7 @@ pub data Part : Type 0 where
   itself : (c : ℕ) → Part
   -- a backslash and the character that it stands for
   escaped : (c : ℕ) → Part
-  -- a backslash, the hex digits of a character's number, and perhaps a whitespace
+  -- a backslash, the hex digits of a character's number, and perhaps one whitespace character
   hex_escape : (digits blank : Text) → Part
   -- a backslash and a newline
   escaped_newline : Part
@@ -29,7 +29,7 @@ parts_text parts = flat_map part_text parts
 
 -- ---- which parts there are
 
--- at most one whitespace
+-- at most one whitespace character
 abbrev pub is_blank : Text → Bool
 is_blank [] = true
 is_blank (c ∷ cs) = is_whitespace c && is_empty cs
@@ -39,7 +39,7 @@ abbrev pub is_hex_escape_over : Text → Text → Text → Bool
 is_hex_escape_over digits (c ∷ cs) behind = true
 is_hex_escape_over digits [] behind = not (begins is_whitespace behind) && ((length digits == 6) || not (begins is_hex_digit behind))
 
--- a backslash is never itself; any character may be escaped but a hex digit, which begins a code, and a newline; a code has one to six digits and at most one whitespace, and is as long as it can be; nothing follows a backslash that is cut off
+-- a backslash is never itself; any character may be escaped but a hex digit, which begins a code, and a newline; a code has one to six digits and at most one whitespace character, and is as long as it can be; nothing follows a backslash at the end of the text
 abbrev pub IsPart : Part → Text → Type 0
 IsPart (itself c) behind = c == backslash ≡ false
 IsPart (escaped c) behind = (is_hex_digit c ≡ false) × (is_newline c ≡ false)

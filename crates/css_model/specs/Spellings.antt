@@ -18,7 +18,7 @@ follows_hyphen (hex_escape digits blank ∷ parts) = true
 follows_hyphen (escaped_newline ∷ parts) = false
 follows_hyphen (escape_at_end ∷ parts) = true
 
--- these parts of a name begin as an identifier does
+-- these parts of a name would start an identifier
 abbrev pub would_start_ident : List Part → Bool
 would_start_ident [] = false
 would_start_ident (itself c ∷ parts) = is_ident_start c || ((c == hyphen) && follows_hyphen parts)

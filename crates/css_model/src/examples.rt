@@ -5,7 +5,7 @@ ghost use Rattle.css_model.specs.Tokens.{ident, string, bad_string, whitespace, 
 ghost use Rattle.std.specs.Prelude.{◌≡◌, ◌∷◌, [], ◌^◌, ◌-◌, codes, pos, negsuc, true, false};
 
 /// Escapes in names and strings (CSS Syntax 3, section 4.3.7): a code of six digits ends by
-/// itself, a shorter one by one whitespace or by what is no hex digit.
+/// itself, a shorter one by one whitespace character or by what is no hex digit.
 #[tactic(auto, unfolding(crate::specs::Pieces::pieces_after, crate::specs::Fronts::parts_after))]
 pub fn examples_of_escapes()
     ensures six_digits { kinds (codes "\\000041b") ≡ ident (codes "Ab") ∷ [] }
@@ -23,7 +23,7 @@ pub fn examples_of_escapes()
     ensures no_code { kinds (codes "a\\,\\g") ≡ ident (codes "a,g") ∷ [] }
     ensures end_of_text { kinds (codes "a\\") ≡ ident (97 ∷ replacement ∷ []) ∷ [] }
     ensures end_of_string { kinds (codes "'a\\") ≡ string (codes "a") ∷ [] }
-    ensures joined_lines { kinds (codes "'a\\\nb'") ≡ string (codes "ab") ∷ [] }
+    ensures escaped_newline { kinds (codes "'a\\\nb'") ≡ string (codes "ab") ∷ [] }
     ensures no_escape { kinds (codes "\\\n") ≡ delim 92 ∷ whitespace ∷ [] }
 {}
 

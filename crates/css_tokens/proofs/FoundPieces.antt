@@ -1,15 +1,15 @@
 -- The pieces of a text, by the one that was found in front.
-use Rattle.std.proofs.Common.{◌≡◌, ◌∙◌, ap, refl, sym, subst, ℕ, zero, suc, pred, ◌+◌, ◌<◌, ◌≤◌, List, [], ◌∷◌, ◌++◌, length, take, drop, drop-drop, length-append, length-drop, append_assoc, Option, option_map, arith}
+use Rattle.std.proofs.Common.{true, false, ◌≡◌, ◌∙◌, ap, refl, sym, subst, ℕ, zero, suc, pred, ◌+◌, ◌<◌, ◌≤◌, List, [], ◌∷◌, ◌++◌, length, take, drop, drop-drop, length-append, length-drop, append_assoc, Option, option_map, arith}
 use Rattle.std.proofs.lemmas.List.{drop_all}
 use Rattle.std.specs.Prelude.{Result, Ok, Err, IfOk}
 use Rattle.std.specs.Str.{chars}
 use Rattle.css_model.specs.Preprocessing.{preprocessed}
 use Rattle.std.proofs.Math.Seq.{take-append_seam}
-use Rattle.css_model.specs.Classes.{Text}
+use Rattle.css_model.specs.Classes.{Text, is_whitespace, is_quote}
 use Rattle.css_model.specs.Tokens.{Kind, Token}
 use Rattle.css_model.specs.TokenList as model
 use Rattle.css_model.specs.TokenList.{piece_text, tokens_from, IsTokenList}
-use Rattle.css_model.specs.Pieces.{first_piece, pieces}
+use Rattle.css_model.specs.Pieces.{consume_string, first_piece, pieces}
 use Rattle.css_model.proofs.Laws.{IsFirst, pieces-cons, pieces-nil}
 use Rattle.css_model.proofs.FirstPieces.{pieces-first}
 use Rattle.css_model.proofs.NumberPieces.{numbers-first, tokens-are-tokens}
@@ -20,6 +20,10 @@ use Rattle.css_tokens.specs.Found.{class_of, IsFront, tokens_of_class}
 
 is-first : (c : ℕ) (cs : Text) → IsFirst (first_piece c cs) (c ∷ cs)
 is-first c cs = pieces-first numbers-first c cs
+
+-- a text that begins with a quote begins with a string
+pub string-first : (c : ℕ) (cs : Text) → is_whitespace c ≡ false → is_quote c ≡ true → first_piece c cs ≡ consume_string c cs
+string-first c cs f t = rw (f, t) refl
 
 drop-pred : (n c : ℕ) (cs : Text) → 1 ≤ n → drop (pred n) cs ≡ drop n (c ∷ cs)
 drop-pred zero c cs h = absurd (omega (arith, h))

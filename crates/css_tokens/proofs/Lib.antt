@@ -1,4 +1,5 @@
 pub mod RunSteps
+pub mod PreprocessedFronts
 pub mod LimitedDecimals
 pub mod Quotients
 pub mod Points

@@ -1,18 +1,20 @@
--- The run of characters of one class in front of a text, character by character.
+-- The run of characters of one class in front of a text.
 use Rattle.std.proofs.Math.Seq.{take-append_seam}
-use Rattle.std.proofs.Common.{◌≡◌, ◌∙◌, sym, ap, ℕ, suc, ◌+◌, ◌<◌, length, get_or, take, drop, drop-cons, add-one, Bool, true, false, refl}
+use Rattle.std.proofs.Common.{◌≡◌, ◌∙◌, sym, ap, ℕ, [], ◌∷◌, length, take, drop, Bool, refl, inl, inr, arith}
+use Rattle.std.specs.List.{prefix_len}
+use Rattle.std.proofs.lemmas.Bool.{cases_Bool}
 use Rattle.css_model.specs.Classes.{Text}
 use Rattle.css_model.specs.Fronts.{run_in, one_in}
 use Rattle.css_model.proofs.Runs.{runs}
 use Rattle.css_model.proofs.PartLemmas.{one_in-joins}
 
--- one character more is of the class
-pub run-more : (test : ℕ → Bool) (cs : Text) (i d : ℕ) → i < length cs → test (get_or cs i d) ≡ true → length (run_in test (drop i cs)) ≡ suc (length (run_in test (drop (i + 1) cs)))
-run-more test cs i d h t = rw (drop-cons cs i d) (rw t (ap (λ n. suc (length (run_in test (drop n cs)))) (sym (add-one i))))
-
--- a character is not of the class
-pub run-over : (test : ℕ → Bool) (cs : Text) (i d : ℕ) → i < length cs → test (get_or cs i d) ≡ false → length (run_in test (drop i cs)) ≡ 0
-run-over test cs i d h f = rw (drop-cons cs i d) (rw f refl)
+-- a run has as many characters as pass its test
+pub run-length : (test : ℕ → Bool) (cs : Text) → prefix_len test cs ≡ length (run_in test cs)
+run-length test [] = refl
+run-length test (c ∷ cs) = elim (cases_Bool (test c)) [
+  | inl t ↦ rw t (omega (arith, run-length test cs))
+  | inr f ↦ rw f refl
+]
 
 -- a run is the front of its length
 pub run-take : (test : ℕ → Bool) (cs : Text) → take (length (run_in test cs)) cs ≡ run_in test cs

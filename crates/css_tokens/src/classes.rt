@@ -30,8 +30,8 @@ impl Class {
         ensures { result ≡ test_of self c }
     {
         match self {
-            Class::Digit => is_digit(c),
-            Class::HexDigit => is_hex_digit(c),
+            Class::Digit => c.is_ascii_digit(),
+            Class::HexDigit => c.is_ascii_hexdigit(),
             Class::Whitespace => is_whitespace(c),
             Class::Sign => is_sign(c),
             Class::Hyphen => c == '-',
@@ -42,39 +42,18 @@ impl Class {
     }
 }
 
-/// A digit: 0 to 9.
-pub fn is_digit(c: char) -> bool
-    ensures { result ≡ model.is_digit c }
-{
-    c.is_ascii_digit()
-}
-
-/// A hex digit: a digit, A to F or a to f.
-pub fn is_hex_digit(c: char) -> bool
-    ensures { result ≡ model.is_hex_digit c }
-{
-    c.is_ascii_hexdigit()
-}
-
-/// A letter: A to Z or a to z.
-pub fn is_letter(c: char) -> bool
-    ensures { result ≡ model.is_letter c }
-{
-    c.is_ascii_alphabetic()
-}
-
 /// An ident-start code point: a letter, what is not ASCII, or `_`.
 pub fn is_ident_start(c: char) -> bool
     ensures { result ≡ model.is_ident_start c }
 {
-    is_letter(c) || '\u{80}' <= c || c == '_'
+    c.is_ascii_alphabetic() || '\u{80}' <= c || c == '_'
 }
 
 /// An ident code point: an ident-start code point, a digit or `-`.
 pub fn is_ident_char(c: char) -> bool
     ensures { result ≡ model.is_ident_char c }
 {
-    is_ident_start(c) || is_digit(c) || c == '-'
+    is_ident_start(c) || c.is_ascii_digit() || c == '-'
 }
 
 /// A non-printable code point.

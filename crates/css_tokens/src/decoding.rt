@@ -1,4 +1,4 @@
-//! The parts of a name, string or url in front of a text.
+//! What the parts of a name, string or url in front of a text stand for.
 ghost use Rattle.std.specs.Prelude.{◌≡◌, ◌≤◌, ◌++◌, length, flat_map, option_to_list, IfOk, OnOk};
 ghost use Rattle.css_model.specs.Parts.{parts_text};
 ghost use Rattle.css_model.specs.Fronts.{parts_in};
@@ -13,7 +13,7 @@ use super::written::Written;
 use port_core::{NoMemory, Text};
 use std::alloc::Global;
 
-/// Parts in front of a text.
+/// What parts in front of a text stand for.
 #[derive(Debug, Drop)]
 pub struct Decoded {
     /// How many characters spell them.
@@ -78,7 +78,7 @@ fn write(written: &mut Written, meaning: Option<char>) -> Result<(), NoMemory>
     }
 }
 
-/// Whether the parts of a name in front begin as an identifier does (CSS Syntax 3, section 4.3.9).
+/// Whether the parts of a name in front would start an identifier (CSS Syntax 3, section 4.3.9).
 #[tactic(auto, using(crate::proofs::KeptParts::begins_more, crate::proofs::KeptParts::begins_none))]
 pub fn would_start_ident(cs: &[char]) -> bool
     ensures { result ≡ model.would_start_ident (parts_in (allowed_at place.Name) cs.now) }

@@ -6,8 +6,7 @@ ghost use Rattle.css_tokens.specs.declared.escapes.Part.TheVariants as part;
 ghost use Rattle.css_tokens.specs.Kept.{kept, length_of, meaning_of, is_allowed, starts_name, is_hyphen_alone};
 
 use super::classes::{
-    Class, is_digit, is_hex_digit, is_ident_char, is_ident_start, is_non_printable, is_quote,
-    is_whitespace,
+    Class, is_ident_char, is_ident_start, is_non_printable, is_quote, is_whitespace,
 };
 use super::runs::{behind, one, run};
 
@@ -37,7 +36,7 @@ pub enum Part {
     Itself(char),
     /// A backslash and the character that it stands for.
     Escaped(char),
-    /// A backslash and a code: its character, and how many characters spell it.
+    /// A backslash and the hex digits of a character's number: that character, and how many characters spell it.
     HexEscape(char, usize),
     /// A backslash and a newline.
     EscapedNewline,
@@ -116,7 +115,7 @@ impl Place {
         }
     }
 
-    /// Whether a backslash may stand before a newline here.
+    /// Whether an escaped newline may stand here.
     fn allows_escaped_newline(self) -> bool
         ensures { result ≡ is_allowed self part.EscapedNewline }
     {
@@ -157,7 +156,7 @@ fn escape_at(rest: &[char]) -> Part
         [c, ..] => {
             if *c == '\n' {
                 Part::EscapedNewline
-            } else if is_hex_digit(*c) {
+            } else if c.is_ascii_hexdigit() {
                 hex_escape_at(rest)
             } else {
                 Part::Escaped(*c)
@@ -166,7 +165,7 @@ fn escape_at(rest: &[char]) -> Part
     }
 }
 
-/// The code of which this stands behind the backslash: up to six hex digits, and one whitespace.
+/// The hex escape of which this stands behind the backslash: up to six hex digits, and one whitespace character.
 fn hex_escape_at(rest: &[char]) -> Part
     ensures { result ≡ kept (hex_escape_in rest.now) }
 {
@@ -203,7 +202,7 @@ fn hex_digit_value(c: char) -> u32
     ensures small { result < 2 ^ 21 }
 {
     let code = c as u32;
-    if is_digit(c) {
+    if c.is_ascii_digit() {
         code - 48
     } else if c <= 'F' {
         code.saturating_sub(55)

@@ -1,9 +1,9 @@
 //! The first piece of a text (CSS Syntax 3, section 4.3.1).
-ghost use Rattle.std.specs.Prelude.{◌≡◌, ◌∷◌, codes, IfOk};
+ghost use Rattle.std.specs.Prelude.{◌≡◌, ◌<◌, length, codes, IfOk};
 ghost use Rattle.css_model.specs.Parts.{in_name};
 ghost use Rattle.css_model.specs.Fronts.{parts_in};
 ghost use Rattle.css_model.specs.Pieces as model;
-ghost use Rattle.css_tokens.specs.Found.{IsFound};
+ghost use Rattle.css_tokens.specs.Found.{IsFound, IsFront};
 ghost use Rattle.css_tokens.specs.Views.{kind_view};
 
 use super::classes::{Class, is_quote, is_whitespace};
@@ -20,22 +20,29 @@ use super::token::{Bracket, TokenKind};
 use port_core::NoMemory;
 use std::alloc::Global;
 
-/// The first piece of a text, which is this character and the rest.
-pub fn first_piece(alloc: Global, c: char, rest: &[char], text: &[char]) -> Result<Piece, NoMemory>
-    requires { text.now ≡ c ∷ rest.now }
-    ensures { IfOk result (λ p. IsFound p (model.first_piece c rest.now)) }
+/// The first piece of a text that is not empty.
+pub fn first_piece(alloc: Global, text: &[char]) -> Result<Piece, NoMemory>
+    requires { 0 < length text.now }
+    ensures { IfOk result (λ p. IsFront text.now p) }
 {
-    if is_whitespace(c) {
+    let [c, rest @ ..] = text else { unreachable!() };
+    if is_whitespace(*c) {
         let (white, _) = run(Class::Whitespace, text);
         Ok(Piece::token(TokenKind::Whitespace, white.len()))
-    } else if is_quote(c) {
-        consume_string(alloc, c, rest)
+    } else if is_quote(*c) {
+        consume_string(alloc, *c, rest)
     } else if begins_comment(text) {
         Ok(consume_comment(behind(rest, 1)))
     } else if would_start_number(text) {
         consume_numeric(alloc, text)
+    } else if begins_cdc(text) {
+        Ok(Piece::token(TokenKind::Cdc, 3))
+    } else if would_start_ident(text) {
+        consume_ident_like(alloc, text)
+    } else if begins_cdo(text) {
+        Ok(Piece::token(TokenKind::Cdo, 4))
     } else {
-        other_piece(alloc, c, rest, text)
+        marked_piece(alloc, *c, rest)
     }
 }
 
@@ -55,22 +62,6 @@ fn begins_cdo(cs: &[char]) -> bool
     ensures { result ≡ model.has_front (codes "<!--") cs.now }
 {
     matches!(cs, ['<', '!', '-', '-', ..])
-}
-
-/// The piece of a text that begins with no whitespace, quote, comment or number.
-fn other_piece(alloc: Global, c: char, rest: &[char], text: &[char]) -> Result<Piece, NoMemory>
-    requires { text.now ≡ c ∷ rest.now }
-    ensures { IfOk result (λ p. IsFound p (model.other_piece (parts_in in_name text.now) c rest.now)) }
-{
-    if begins_cdc(text) {
-        Ok(Piece::token(TokenKind::Cdc, 3))
-    } else if would_start_ident(text) {
-        consume_ident_like(alloc, text)
-    } else if begins_cdo(text) {
-        Ok(Piece::token(TokenKind::Cdo, 4))
-    } else {
-        marked_piece(alloc, c, rest)
-    }
 }
 
 /// A hash, an at-keyword or a single character.

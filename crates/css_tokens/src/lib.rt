@@ -1,4 +1,4 @@
-//! What is read of a text of CSS: its tokens.
+//! What is read of a text of CSS: its tokens, and their components.
 #![tactic(auto)]
 
 mod classes;
@@ -26,6 +26,7 @@ mod tests;
 mod token;
 mod tokenizer;
 mod urls;
+mod values;
 mod written;
 
 pub use component::{Component, Components};

@@ -6,7 +6,7 @@ ghost use Rattle.css_model.specs.Numerals as written;
 ghost use Rattle.css_model.specs.Fronts as model;
 ghost use Rattle.css_tokens.specs.Views.{number_view, numeral_view};
 
-use super::classes::{self, Class, is_e, is_sign};
+use super::classes::{Class, is_e, is_sign};
 use super::magnitudes::{enlarged, reduced};
 use super::runs::{begins, one, run};
 use super::token::Number;
@@ -35,7 +35,7 @@ fn begins_unsigned(cs: &[char]) -> bool
 {
     match cs {
         [] => false,
-        [c, rest @ ..] => classes::is_digit(*c) || (*c == '.' && begins(Class::Digit, rest)),
+        [c, rest @ ..] => c.is_ascii_digit() || (*c == '.' && begins(Class::Digit, rest)),
     }
 }
 
@@ -61,7 +61,7 @@ fn begins_signed_digit(cs: &[char]) -> bool
 {
     match cs {
         [] => false,
-        [c, rest @ ..] => classes::is_digit(*c) || (is_sign(*c) && begins(Class::Digit, rest)),
+        [c, rest @ ..] => c.is_ascii_digit() || (is_sign(*c) && begins(Class::Digit, rest)),
     }
 }
 

@@ -1,5 +1,6 @@
 //! The characters of one class in front of a text.
 ghost use Rattle.std.specs.Prelude.{◌≡◌, ◌≤◌, length, drop};
+ghost use Rattle.std.specs.List.{prefix_len};
 ghost use Rattle.css_model.specs.Classes as model;
 ghost use Rattle.css_model.specs.Fronts.{one_in, run_in};
 ghost use Rattle.css_tokens.specs.Tests.{test_of};
@@ -33,16 +34,12 @@ pub fn run<'a>(class: Class, cs: &'a [char]) -> (&'a [char], &'a [char])
     cs.split_at(run_length(class, cs))
 }
 
+/// How many characters of this class stand in front.
 fn run_length(class: Class, cs: &[char]) -> usize
-    ensures run { result ≡ length (run_in (test_of class) cs.now) }
+    ensures run { result ≡ prefix_len (test_of class) cs.now }
     ensures within { result ≤ length cs.now }
 {
-    for i in 0..cs.len() {
-        if !class.has(cs[i]) {
-            return i;
-        }
-    }
-    cs.len()
+    cs.iter().take_while(|c| class.has(**c)).count()
 }
 
 /// The first character, if it is of this class, and what stands behind it.

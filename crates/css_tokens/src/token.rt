@@ -1,3 +1,4 @@
+//! Tokens (CSS Syntax 3, section 4).
 ghost use Rattle.std.specs.Prelude.{◌≡◌, ◌+◌, length};
 
 use port_core::{Seq, Text};

@@ -4,7 +4,7 @@ ghost use Rattle.std.specs.Str.{chars};
 ghost use Rattle.css_model.specs.TokenList.{IsTokenList, tokens_from};
 ghost use Rattle.css_model.specs.Pieces.{pieces};
 ghost use Rattle.css_tokens.specs.Views.{kind_view, tokens_view};
-ghost use Rattle.css_tokens.specs.Found.{IsFront, token_of, tokens_of_class};
+ghost use Rattle.css_tokens.specs.Found.{token_of, tokens_of_class};
 
 use super::first_piece::first_piece;
 use super::piece::Piece;
@@ -43,19 +43,11 @@ fn take_piece(alloc: Global, tokens: &mut Tokens, cs: &[char], at: usize) -> Res
     ensures taken { IfOk result (λ next. tokens_view tokens.new ++ tokens_from next (pieces (drop next cs.now)) ≡ tokens_view tokens.old ++ tokens_from at (pieces (drop at cs.now))) }
 {
     let rest = behind(cs, at);
-    let piece = front_piece(alloc, rest)?;
+    let piece = first_piece(alloc, rest)?;
     let count = piece.count;
     let (spelling, _) = rest.split_at(count);
     keep_token(alloc, tokens, piece.kind, at, spelling)?;
     Ok(at + count)
-}
-
-/// The piece in front of a text.
-fn front_piece(alloc: Global, text: &[char]) -> Result<Piece, NoMemory>
-    requires { 0 < length text.now }
-    ensures { IfOk result (λ p. IsFront text.now p) }
-{
-    first_piece(alloc, text[0], behind(text, 1), text)
 }
 
 /// Adds the token of this class, if it is one, with this place and spelling.
