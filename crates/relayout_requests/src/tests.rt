@@ -58,7 +58,9 @@ fn lines_ask(rt: HostRuntime) -> Result<(), Fail> {
         rt.alloc(),
         b"{\"id\":18446744073709551615,\"do\":\"remove\"}",
     )?;
-    assert!(rt; matches!(&remove, Asked::Request(Request::Edit(Edit::Remove(id))) if *id == u64::MAX));
+    assert!(rt;
+        matches!(&remove, Asked::Request(Request::Edit(Edit::Remove(id))) if *id == u64::MAX)
+    );
     Ok(())
 }
 
