@@ -55,18 +55,6 @@ pub record Clearing (old slots : List (Option Slot)) (live count levels up : ℕ
   pub clears : cleared (all_ids rest) slots ≡ cleared (all_ids ns) old
   pub counts : count - length (all_ids rest) ≡ live - length (all_ids ns)
 
-pub clearing-all : (slots : List (Option Slot)) (live levels up index : ℕ) (ns : Nodes) → HoldsAll slots up index ns → heights ns ≤ levels → AreDistinct (all_ids ns) → Clearing slots slots live live levels up ns (ids_of ns)
-clearing-all slots live levels up index ns h l d = record {
-  index = index;
-  rest = ns;
-  ids = refl;
-  held = h;
-  low = l;
-  distinct = d;
-  clears = refl;
-  counts = refl;
-}
-
 nil-cons : (x : ℕ) (xs : List ℕ) → [] ≡ x ∷ xs → ⊥
 nil-cons x xs h = let n : 0 ≡ suc (length xs) = ap length h in omega (arith, n)
 

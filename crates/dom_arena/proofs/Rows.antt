@@ -80,9 +80,6 @@ element-copied old a b d up index id name attributes numbers kids is pushed all 
 
 -- ---- tables that grow
 
-pub longer-more : (a b more : List (Option Slot)) → b ≡ a ++ more → IsLonger a b
-longer-more a b more e = (more, e)
-
 pub longer-trans : (a b c : List (Option Slot)) → IsLonger a b → IsLonger b c → IsLonger a c
 longer-trans a b c p q = (p.0 ++ q.0, q.1 ∙ (ap (λ s. s ++ q.0) p.1 ∙ append_assoc a p.0 q.0))
 

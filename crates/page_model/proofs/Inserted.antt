@@ -1,11 +1,11 @@
 -- The tree in which an element has one more child.
-use Rattle.std.proofs.Common.{◌≡◌, ℕ, Option, option_map, subst, true, zero, suc, ◌+◌, ◌≤◌, ◌==◌, max, [], ◌∷◌, ◌++◌, Some, None, is_some, IsSome, refl, sym, ap, ◌∙◌, inl, inr, arith}
+use Rattle.std.proofs.Common.{◌≡◌, ℕ, zero, suc, ◌+◌, ◌≤◌, ◌==◌, max, [], ◌∷◌, ◌++◌, Some, None, is_some, IsSome, refl, sym, ap, ◌∙◌, inl, inr, arith}
 use Rattle.std.proofs.lemmas.Bool.{cases_Bool, eqb-true, false≢true}
 use Rattle.std.proofs.lemmas.Option.{same_Some, none-some}
-use Rattle.page_model.specs.Document.{Node, element, text, Nodes, no_nodes, node, id_of, ids_of, name_of, ids, all_ids, find, find_in, height, heights, or_else, node_count, IsAmong, AreDistinct}
+use Rattle.page_model.specs.Document.{Node, element, text, Nodes, no_nodes, node, id_of, ids_of, name_of, ids, all_ids, find, find_in, height, heights, IsAmong, AreDistinct}
 use Rattle.page_model.specs.Edits.{with_one, inserted, all_inserted, level, level_in}
-use Rattle.page_model.proofs.Members.{among-left, among-right, among-find, find-among, distinct-left, distinct-right, distinct-apart, find_in-part, if-found, or-found}
-use Rattle.page_model.proofs.Spliced.{Spliced, spliced-here, spliced-cons, spliced-left, spliced-right, AreApart, spliced-length, spliced-distinct}
+use Rattle.page_model.proofs.Members.{among-left, among-right, among-find, find-among, distinct-left, distinct-right, distinct-apart, if-found, or-found}
+use Rattle.page_model.proofs.Spliced.{Spliced, spliced-here, spliced-cons, spliced-left, spliced-right}
 use Rattle.page_model.proofs.Levels.{level-element, level-found}
 
 pub id_of-inserted : (parent index : ℕ) (new n : Node) → id_of (inserted parent index new n) ≡ id_of n
@@ -111,57 +111,3 @@ mutual
         let rest : heights (all_inserted parent index new ns) ≤ max (heights ns) (l + height new) = heights-inserted parent index new ns l (distinct-right (ids n) (all_ids ns) d) k.1 in
         rw first (omega (arith, rest))
   ]
-
--- ---- how many nodes there are, and that their numbers are distinct
-
-pub node_count-inserted : (parent index : ℕ) (new n p : Node) → AreDistinct (ids n) → find parent n ≡ Some p → IsSome (name_of p) → node_count (inserted parent index new n) ≡ node_count n + node_count new
-node_count-inserted parent index new n p d h e = spliced-length (ids (inserted parent index new n)) (ids new) (ids n) (ids-inserted parent index new n p d h e)
-
-pub distinct-inserted : (parent index : ℕ) (new n p : Node) → AreDistinct (ids n) → find parent n ≡ Some p → IsSome (name_of p) → AreDistinct (ids new) → AreApart (ids new) (ids n) → AreDistinct (ids (inserted parent index new n))
-distinct-inserted parent index new n p d h e f apart = spliced-distinct (ids (inserted parent index new n)) (ids new) (ids n) (ids-inserted parent index new n p d h e) d f apart
-
--- ---- every other node is found, with the new one below it where the parent is below it
-
-not-found : {X : Type 0} (o : Option X) → (is_some o ≡ true → ⊥) → o ≡ None
-not-found None h = refl
-not-found (Some x) h = absurd (h refl)
-
-pub absent-unfound : (i : ℕ) (n : Node) → (IsAmong i (ids n) → ⊥) → find i n ≡ None
-absent-unfound i n out = not-found (find i n) (λ h. out (find-among i n h))
-
-find-with_one : (i k : ℕ) (new : Node) (ns : Nodes) → (IsAmong i (ids new) → ⊥) → find_in i (with_one k new ns) ≡ find_in i ns
-find-with_one i zero new ns out = ap (λ o. or_else o (find_in i ns)) (absent-unfound i new out)
-find-with_one i (suc k) new no_nodes out = ap (λ o. or_else o None) (absent-unfound i new out)
-find-with_one i (suc k) new (node n ns) out = ap (or_else (find i n)) (find-with_one i k new ns out)
-
--- what is found where the parent is not stays as it is
-map-absent : (parent index : ℕ) (new : Node) (o : Option Node) → ((m : Node) → o ≡ Some m → IsAmong parent (ids m) → ⊥) → o ≡ option_map (inserted parent index new) o
-map-absent parent index new None out = refl
-map-absent parent index new (Some m) out = ap Some (sym (inserted-absent parent index new m (out m refl)))
-
-map-or_else : (f : Node → Node) (o p : Option Node) → option_map f (or_else o p) ≡ or_else (option_map f o) (option_map f p)
-map-or_else f None p = refl
-map-or_else f (Some x) p = refl
-
-mutual
-  pub find-inserted : (i parent index : ℕ) (new n : Node) → AreDistinct (ids n) → (IsAmong i (ids new) → ⊥) → find i (inserted parent index new n) ≡ option_map (inserted parent index new) (find i n)
-  find-inserted i parent index new (element id name attributes kids) d out = elim (cases_Bool (i == id)) [
-    | inl t ↦ rw t refl
-    | inr f ↦ rw f (elim (cases_Bool (parent == id)) [
-      | inl s ↦ rw s (find-with_one i index new kids out
-          ∙ map-absent parent index new (find_in i kids) (λ m h b. d.0 (subst (λ (k : ℕ). IsAmong k (all_ids kids)) (eqb-true parent id s) (find_in-part i kids m parent h b))))
-      | inr g ↦ rw g (find-all_inserted i parent index new kids d.1 out)
-    ])
-  ]
-  find-inserted i parent index new (text id cs) d out = elim (cases_Bool (i == id)) [
-    | inl t ↦ rw t refl
-    | inr f ↦ rw f refl
-  ]
-
-  pub find-all_inserted : (i parent index : ℕ) (new : Node) (ns : Nodes) → AreDistinct (all_ids ns) → (IsAmong i (ids new) → ⊥) → find_in i (all_inserted parent index new ns) ≡ option_map (inserted parent index new) (find_in i ns)
-  find-all_inserted i parent index new no_nodes d out = refl
-  find-all_inserted i parent index new (node n ns) d out =
-      let first : find i (inserted parent index new n) ≡ option_map (inserted parent index new) (find i n) = find-inserted i parent index new n (distinct-left (ids n) (all_ids ns) d) out in
-      let rest : find_in i (all_inserted parent index new ns) ≡ option_map (inserted parent index new) (find_in i ns) = find-all_inserted i parent index new ns (distinct-right (ids n) (all_ids ns) d) out in
-      ap (λ o. or_else o (find_in i (all_inserted parent index new ns))) first
-      ∙ (ap (or_else (option_map (inserted parent index new) (find i n))) rest ∙ sym (map-or_else (inserted parent index new) (find i n) (find_in i ns)))

@@ -1,13 +1,12 @@
 -- The tree without a node and all below it.
-use Rattle.std.proofs.Common.{◌≡◌, ℕ, ◌+◌, Option, option_map, is_some, ◌≤◌, ◌==◌, false, cond, Some, None, refl, sym, ap, ◌∙◌, subst, inl, inr, arith, eq-eqb}
+use Rattle.std.proofs.Common.{◌≡◌, ℕ, ◌≤◌, ◌==◌, false, cond, Some, None, refl, sym, ap, ◌∙◌, subst, inl, inr, arith, eq-eqb}
 use Rattle.std.proofs.lemmas.Bool.{cases_Bool, eqb-true}
 use Rattle.std.proofs.lemmas.Option.{same_Some, none-some}
-use Rattle.page_model.specs.Document.{Node, element, text, Nodes, no_nodes, node, id_of, name_of, ids, all_ids, find, find_in, height, heights, or_else, node_count, IsAmong, AreDistinct}
+use Rattle.page_model.specs.Document.{Node, element, text, Nodes, no_nodes, node, id_of, name_of, ids, all_ids, find, find_in, height, heights, IsAmong, AreDistinct}
 use Rattle.page_model.specs.Edits.{removed, all_removed}
-use Rattle.page_model.proofs.Members.{among-split, among-left, among-right, among-top, distinct-left, distinct-right, distinct-apart, among-find, or-found}
-use Rattle.page_model.proofs.Spliced.{Spliced, spliced-here, spliced-cons, spliced-left, spliced-right, spliced-length, spliced-among, rest-distinct, part-apart}
-use Rattle.page_model.proofs.Inserted.{unfound-absent, found-absent, absent-unfound}
-use Rattle.page_model.proofs.Parents.{or-first}
+use Rattle.page_model.proofs.Members.{among-split, among-left, among-right, among-top, distinct-left, distinct-right, or-found}
+use Rattle.page_model.proofs.Spliced.{Spliced, spliced-here, spliced-cons, spliced-left, spliced-right, rest-distinct}
+use Rattle.page_model.proofs.Inserted.{unfound-absent, found-absent}
 
 pub id_of-removed : (i : ℕ) (n : Node) → id_of (removed i n) ≡ id_of n
 id_of-removed i (element id name attributes kids) = refl
@@ -97,59 +96,5 @@ mutual
         | inr f ↦ rw f (omega (arith, first, rest))
       ]
 
--- ---- how many nodes there are, and that their numbers are distinct
-
-pub node_count-removed : (i : ℕ) (n x : Node) → AreDistinct (ids n) → find i n ≡ Some x → (i == id_of n) ≡ false → node_count n ≡ node_count (removed i n) + node_count x
-node_count-removed i n x d h f = spliced-length (ids n) (ids x) (ids (removed i n)) (ids-removed i n x d h f)
-
 pub distinct-removed : (i : ℕ) (n x : Node) → AreDistinct (ids n) → find i n ≡ Some x → (i == id_of n) ≡ false → AreDistinct (ids (removed i n))
 distinct-removed i n x d h f = rest-distinct (ids n) (ids x) (ids (removed i n)) (ids-removed i n x d h f) d
-
--- the numbers that stay are those that are not below the node
-pub stays-removed : (i j : ℕ) (n x : Node) → AreDistinct (ids n) → find i n ≡ Some x → (i == id_of n) ≡ false → IsAmong j (ids n) → (IsAmong j (ids x) → ⊥) → IsAmong j (ids (removed i n))
-stays-removed i j n x d h f a out = elim (spliced-among j (ids n) (ids x) (ids (removed i n)) (ids-removed i n x d h f) a) [
-  | inl b ↦ absurd (out b)
-  | inr b ↦ b
-]
-
-pub goes-removed : (i j : ℕ) (n x : Node) → AreDistinct (ids n) → find i n ≡ Some x → (i == id_of n) ≡ false → IsAmong j (ids x) → IsAmong j (ids (removed i n)) → ⊥
-goes-removed i j n x d h f a b = part-apart (ids n) (ids x) (ids (removed i n)) (ids-removed i n x d h f) d j a b
-
--- ---- every other node is found, without what goes below it
-
-map-or_else : (f : Node → Node) (o p : Option Node) → option_map f (or_else o p) ≡ or_else (option_map f o) (option_map f p)
-map-or_else f None p = refl
-map-or_else f (Some x) p = refl
-
-mutual
-  -- a node that stays is found
-  pub find-removed : (i j : ℕ) (n : Node) → AreDistinct (ids n) → IsAmong j (ids (removed i n)) → find j (removed i n) ≡ option_map (removed i) (find j n)
-  find-removed i j (element id name attributes kids) d (inl e) = rw (eq-eqb j id e) refl
-  find-removed i j (element id name attributes kids) d (inr a) = elim (cases_Bool (j == id)) [
-    | inl t ↦ rw t refl
-    | inr f ↦ rw f (find-all_removed i j kids d.1 a)
-  ]
-  find-removed i j (text id cs) d a = elim (cases_Bool (j == id)) [
-    | inl t ↦ rw t refl
-    | inr f ↦ rw f refl
-  ]
-
-  pub find-all_removed : (i j : ℕ) (ns : Nodes) → AreDistinct (all_ids ns) → IsAmong j (all_ids (all_removed i ns)) → find_in j (all_removed i ns) ≡ option_map (removed i) (find_in j ns)
-  find-all_removed i j no_nodes d a = refl
-  find-all_removed i j (node n ns) d a = elim (cases_Bool (i == id_of n)) [
-    | inl t ↦
-        let below : IsAmong j (all_ids (all_removed i ns)) = rw t at a in
-        let out : find j n ≡ None = absent-unfound j n (λ b. distinct-apart j (ids n) (all_ids ns) d b (all_removed-part i ns j below)) in
-        rw (t, out) (find-all_removed i j ns (distinct-right (ids n) (all_ids ns) d) below)
-    | inr f ↦ rw f (elim (among-split j (ids (removed i n)) (all_ids (all_removed i ns)) (rw f at a)) [
-      | inl b ↦
-          let here : find j (removed i n) ≡ option_map (removed i) (find j n) = find-removed i j n (distinct-left (ids n) (all_ids ns) d) b in
-          or-first (find j (removed i n)) (find_in j (all_removed i ns)) (among-find j (removed i n) b)
-          ∙ (here ∙ (sym (or-first (option_map (removed i) (find j n)) (option_map (removed i) (find_in j ns)) (sym (ap is_some here) ∙ among-find j (removed i n) b))
-          ∙ sym (map-or_else (removed i) (find j n) (find_in j ns))))
-      | inr b ↦
-          let out : IsAmong j (ids n) → ⊥ = λ c. distinct-apart j (ids n) (all_ids ns) d c (all_removed-part i ns j b) in
-          let gone : find j (removed i n) ≡ None = absent-unfound j (removed i n) (λ c. out (removed-part i n j c)) in
-          rw (gone, absent-unfound j n out) (find-all_removed i j ns (distinct-right (ids n) (all_ids ns) d) b)
-    ])
-  ]

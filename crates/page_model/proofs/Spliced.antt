@@ -90,10 +90,6 @@ rest-distinct whole part rest s d =
     (distinct-append s.front s.back (distinct-left s.front (part ++ s.back) w) (distinct-right part s.back (distinct-right s.front (part ++ s.back) w))
     (λ x h k. distinct-apart x s.front (part ++ s.back) w h (among-right x part s.back k)))
 
-pub part-distinct : (whole part rest : List ℕ) → Spliced whole part rest → AreDistinct whole → AreDistinct part
-part-distinct whole part rest s d =
-    distinct-left part s.back (distinct-right s.front (part ++ s.back) (subst AreDistinct s.whole_is d))
-
 pub part-apart : (whole part rest : List ℕ) → Spliced whole part rest → AreDistinct whole → AreApart part rest
 part-apart whole part rest s d = λ x h k.
     let w : AreDistinct (s.front ++ (part ++ s.back)) = subst AreDistinct s.whole_is d in
