@@ -10,7 +10,7 @@ mod refusal;
 mod viewport;
 
 pub use cause::Cause;
-pub use examples::examples_of_causes;
+pub use examples::{examples_of_causes, examples_of_jsonml};
 pub use limits::{MAX_DEPTH, MAX_IDS, MAX_NODES, MAX_SIDE};
 pub use refusal::Refusal;
 pub use viewport::Viewport;
