@@ -1,5 +1,5 @@
 -- How what a line asks for is answered.
-use Rattle.std.proofs.Common.{◌≡◌, ◌∙◌, sym, ap, subst, refl, ℕ, List, [], ◌∷◌, ◌++◌, Bool, true, false, not, inl, inr, Option, Some, None, Result, Ok, Err, OnOk, is_none}
+use Rattle.std.proofs.Common.{◌≡◌, ◌∙◌, sym, ap, subst, refl, ℕ, zero, suc, List, [], ◌∷◌, ◌++◌, Bool, true, false, not, inl, inr, Option, Some, None, Result, Ok, Err, OnOk, is_none}
 use Rattle.std.proofs.lemmas.Bool.{false≢true}
 use Rattle.stream_model.specs.Ledger.{Log}
 use Rattle.page_model.specs.Pages.{Page, State}
@@ -12,7 +12,7 @@ use Rattle.request_model.specs.declared.query.Query.{Query}
 use Rattle.request_model.specs.declared.query.Query.TheVariants.{Dump}
 use Rattle.request_model.specs.declared.accepted.Accepted.{Accepted}
 use Rattle.request_model.specs.Requests.{Edit, load, insert, remove, Request, edit, query, Asked, nothing, broken, request}
-use Rattle.request_model.specs.States.{Answer, silent, refused, accepted, answer_to, answer_by, refusal_of, form_causes, request_causes, edit_causes, state_after_edit, accepted_by, brings_tree, begins_log, is_plain}
+use Rattle.request_model.specs.States.{Answer, silent, refused, accepted, answer_to, answer_by, refusal_of, form_causes, request_causes, edit_causes, state_after_edit, accepted_by, brings_tree, most_logs, logs_of_refused, is_plain}
 use Rattle.layout_model.specs.Setting.{Setting}
 use Rattle.reply_model.specs.Spelling.{error_line}
 use Rattle.reply_model.specs.Replies.{Course, IsTurn, IsAnswered, IsQueryReply, AreLogs, edit_text}
@@ -92,40 +92,47 @@ refused-fault causes r e h is = elim (subst (λ (q : Result _ DocFault). Answers
 -- ---- turns
 
 at-turn : (setting : Setting) (from to : Course) (s : State) (asked : Asked) (own : List Log) (reply : List ℕ) (a : Answer)
-    → from.state ≡ s → answer_to s asked ≡ a → IsAnswered setting from asked own reply to a → IsTurn setting from asked own reply to
+    → from.state ≡ s → answer_to s asked ≡ a → IsAnswered a setting from asked own reply to → IsTurn setting from asked own reply to
 unfolding IsTurn
 at-turn setting from to s asked own reply a at is h =
-    subst (λ (b : Answer). IsAnswered setting from asked own reply to b) (sym (ap (λ (t : State). answer_to t asked) at ∙ is)) h
+    subst (λ (b : Answer). IsAnswered b setting from asked own reply to) (sym (ap (λ (t : State). answer_to t asked) at ∙ is)) h
 
-pub empty-are : (b : Bool) → AreLogs b (λ log. log ≡ []) (empty_logs b)
-empty-are true = ([], refl, refl)
-empty-are false = refl
+pub empty-are : (n : ℕ) → AreLogs n (λ log. log ≡ []) (empty_logs n)
+empty-are zero = refl
+empty-are (suc n) = ([], refl, (empty_logs n, empty-are n, refl))
+
+-- what is refused begins as many logs as what it asks for may begin
+refused-most : (asked : Asked) → logs_of_refused asked ≡ most_logs asked
+refused-most nothing = refl
+refused-most (broken c) = refl
+refused-most (request (edit e)) = refl
+refused-most (request (query Dump)) = refl
 
 pub response-silent : (page : Option KeptPage) (reply : List ℕ) → reply ≡ [] → IsResponse nothing [] reply page page
 response-silent page reply e = λ setting from at. (from, at-turn setting from from (state_view page) nothing [] reply silent at refl (refl, e, refl), at)
 
 pub response-refused : (page : Option KeptPage) (asked : Asked) (c : Cause) (reply : List ℕ) → answer_to (state_view page) asked ≡ refused c → reply ≡ error_line c
-    → IsResponse asked (empty_logs (begins_log asked)) reply page page
+    → IsResponse asked (empty_logs (most_logs asked)) reply page page
 response-refused page asked c reply is e = λ setting from at.
-    (from, at-turn setting from from (state_view page) asked (empty_logs (begins_log asked)) reply (refused c) at is (empty-are (begins_log asked), e, refl), at)
+    (from, at-turn setting from from (state_view page) asked (empty_logs (most_logs asked)) reply (refused c) at is (subst (λ (n : ℕ). AreLogs n (λ log. log ≡ []) (empty_logs (most_logs asked))) (sym (refused-most asked)) (empty-are (most_logs asked)), e, refl), at)
 
 -- a request that is refused for its form, or for what is loaded
 pub response-not_built : (page : Option KeptPage) (q : Request) (reply : List ℕ) → is_none (first_of (form_causes q)) ≡ false → reply ≡ error_line NotBuilt
-    → IsResponse (request q) (empty_logs (begins_log (request q))) reply page page
+    → IsResponse (request q) (empty_logs (most_logs (request q))) reply page page
 response-not_built page q reply h e = response-refused page (request q) NotBuilt reply (ap (answer_by q) (refusal-not_built (state_view page) q h)) e
 
 pub response-cause : (page : Option KeptPage) (q : Request) (c : Cause) (reply : List ℕ) → first_of (form_causes q) ≡ None → first_of (request_causes (state_view page) q) ≡ Some c → reply ≡ error_line c
-    → IsResponse (request q) (empty_logs (begins_log (request q))) reply page page
+    → IsResponse (request q) (empty_logs (most_logs (request q))) reply page page
 response-cause page q c reply built h e = response-refused page (request q) c reply (ap (answer_by q) (refusal-built (state_view page) q built ∙ h)) e
 
 pub response-edit : (page page' : Option KeptPage) (e : Edit) (reply : List ℕ) → first_of (form_causes (edit e)) ≡ None → first_of (edit_causes (state_view page) e) ≡ None
     → state_view page' ≡ state_after_edit (state_view page) e → reply ≡ edit_text (brings_tree e) (accepted_by (state_view page) e)
-    → IsResponse (request (edit e)) (empty_logs (begins_log (request (edit e)))) reply page page'
+    → IsResponse (request (edit e)) (empty_logs (most_logs (request (edit e)))) reply page page'
 response-edit page page' e reply built allowed after told = λ setting from at. (
   record { state = state_view page'; last = [] },
   at-turn setting from (record { state = state_view page'; last = [] }) (state_view page) (request (edit e)) ([] ∷ []) reply (accepted (edit e)) at
       (ap (answer_by (edit e)) (refusal-built (state_view page) (edit e) built ∙ allowed)) (record {
-          logs = ([], refl, refl);
+          logs = ([], refl, ([], refl, refl));
           text = told ∙ ap (λ (s : State). edit_text (brings_tree e) (accepted_by s e)) (sym at);
           state = after ∙ ap (λ (s : State). state_after_edit s e) (sym at);
           last = refl;
@@ -134,12 +141,12 @@ response-edit page page' e reply built allowed after told = λ setting from at. 
 )
 
 pub response-dump : (page : KeptPage) (reply : List ℕ) → ((setting : Setting) → IsDumpOf setting (page_view page) reply)
-    → IsResponse (request (query Dump)) (empty_logs (begins_log (request (query Dump)))) reply (Some page) (Some page)
+    → IsResponse (request (query Dump)) (empty_logs (most_logs (request (query Dump)))) reply (Some page) (Some page)
 response-dump page reply dump = λ setting from at. (
   from,
   at-turn setting from from (Some (page_view page)) (request (query Dump)) [] reply (accepted (query Dump)) at
       (ap (answer_by (query Dump)) (refusal-built (Some (page_view page)) (query Dump) refl))
-      (subst (λ (s : State). IsQueryReply setting from Dump [] reply s) (sym at) ((dump setting).0, (dump setting).1, refl, (dump setting).2), refl),
+      (subst (λ (s : State). IsQueryReply s setting from Dump [] reply) (sym at) ((dump setting).0, (dump setting).1, refl, (dump setting).2), refl),
   at,
 )
 
@@ -148,20 +155,20 @@ response-dump page reply dump = λ setting from at. (
 pub OnOk-edit : {T E : Type 0} (r : Result T E) (page page' : Option KeptPage) (e : Edit) (b : Bool) (a : Accepted) (old new : List ℕ)
     → OnOk r (new ≡ old ++ edit_text b a) → old ≡ [] → b ≡ brings_tree e → a ≡ accepted_by (state_view page) e
     → first_of (form_causes (edit e)) ≡ None → first_of (edit_causes (state_view page) e) ≡ None → state_view page' ≡ state_after_edit (state_view page) e
-    → OnOk r (IsResponse (request (edit e)) (empty_logs (begins_log (request (edit e)))) new page page')
+    → OnOk r (IsResponse (request (edit e)) (empty_logs (most_logs (request (edit e)))) new page page')
 OnOk-edit (Ok x) page page' e b a old new line empty brings is built allowed after =
     response-edit page page' e new built allowed after (line ∙ rw (empty, brings, is) refl)
 OnOk-edit (Err x) page page' e b a old new line empty brings is built allowed after = tt
 
 pub OnOk-refused : {T E : Type 0} (r : Result T E) (page : Option KeptPage) (q : Request) (c : Cause) (old new : List ℕ)
     → OnOk r (new ≡ old ++ error_line c) → old ≡ [] → first_of (form_causes q) ≡ None → first_of (request_causes (state_view page) q) ≡ Some c
-    → OnOk r (IsResponse (request q) (empty_logs (begins_log (request q))) new page page)
+    → OnOk r (IsResponse (request q) (empty_logs (most_logs (request q))) new page page)
 OnOk-refused (Ok x) page q c old new line empty built h = response-cause page q c new built h (line ∙ ap (λ (front : List ℕ). front ++ error_line c) empty)
 OnOk-refused (Err x) page q c old new line empty built h = tt
 
 pub OnOk-not_built : {T E : Type 0} (r : Result T E) (page : Option KeptPage) (q : Request) (old new : List ℕ)
     → OnOk r (new ≡ old ++ error_line NotBuilt) → old ≡ [] → is_none (first_of (form_causes q)) ≡ false
-    → OnOk r (IsResponse (request q) (empty_logs (begins_log (request q))) new page page)
+    → OnOk r (IsResponse (request q) (empty_logs (most_logs (request q))) new page page)
 OnOk-not_built (Ok x) page q old new line empty h = response-not_built page q new h (line ∙ ap (λ (front : List ℕ). front ++ error_line NotBuilt) empty)
 OnOk-not_built (Err x) page q old new line empty h = tt
 
@@ -170,7 +177,7 @@ OnOk-broken (Ok x) page c old new line empty = response-refused page (broken c) 
 OnOk-broken (Err x) page c old new line empty = tt
 
 pub OnOk-dumped : {T E : Type 0} (r : Result T E) (state : Option KeptPage) (page : KeptPage) (q : Query) (new : List ℕ) → state ≡ Some page
-    → OnOk r ((setting : Setting) → IsDumpOf setting (page_view page) new) → OnOk r (IsResponse (request (query q)) (empty_logs (begins_log (request (query q)))) new state state)
+    → OnOk r ((setting : Setting) → IsDumpOf setting (page_view page) new) → OnOk r (IsResponse (request (query q)) (empty_logs (most_logs (request (query q)))) new state state)
 OnOk-dumped (Ok x) state page Dump new is dump = subst (λ (s : Option KeptPage). IsResponse (request (query Dump)) [] new s s) (sym is) (response-dump page new dump)
 OnOk-dumped (Err x) state page q new is dump = tt
 

@@ -1,5 +1,5 @@
 -- How a script is answered line by line.
-use Rattle.std.proofs.Common.{◌≤◌, take, length-append, inl, inr, ◌⊎◌, ◌≡◌, ◌∙◌, sym, ap, refl, subst, ℕ, ◌<◌, ◌+◌, ◌-◌, List, [], ◌∷◌, ◌++◌, length, Bool, true, false, Option, Some, None, IfNone, IfSome, append_assoc, append-nil, arith}
+use Rattle.std.proofs.Common.{◌≤◌, take, length-append, inl, inr, ◌⊎◌, ◌≡◌, ◌∙◌, sym, ap, refl, subst, ℕ, zero, suc, ◌<◌, ◌+◌, ◌-◌, List, [], ◌∷◌, ◌++◌, length, Bool, true, false, Option, Some, None, IfNone, IfSome, append_assoc, append-nil, arith}
 use Rattle.std.proofs.lemmas.Bool.{lt-ltb}
 use Rattle.stream_model.specs.Streams.{SourceState, SinkState, FromTo, Appends, AppendsPart, CountsFault, Grew, TakesCount, NothingLeft}
 use Rattle.stream_model.specs.Lines.{newline, lines, whole_lines, IsUnbroken}
@@ -7,7 +7,7 @@ use Rattle.stream_model.specs.Ledger.{Event, Log, pairs, events, mark}
 use Rattle.stream_model.specs.declared.limits.TheConstants.{MAX_LINE, MAX_TAKEN}
 use Rattle.page_model.specs.declared.cause.Cause.TheVariants.{LineTooLong}
 use Rattle.request_model.specs.Requests.{Asked, broken, asked_of_line}
-use Rattle.request_model.specs.States.{begins_log}
+use Rattle.request_model.specs.States.{most_logs}
 use Rattle.layout_model.specs.Setting.{Setting}
 use Rattle.reply_model.specs.Replies.{Course, start, AreReplies, Replies, IsTurn}
 use Rattle.port_core.specs.Reader.{Reader, ahead, Gives, CountsFaults, IsFirstLine, EndsLine, HasNotFailed, work, fresh}
@@ -15,7 +15,7 @@ use Rattle.port_core.specs.declared.reader.Line.{Line}
 use Rattle.port_core.specs.declared.reader.Line.TheVariants.{Whole, TooLong, End}
 use Rattle.port_core.proofs.StreamLemmas.{FromTo-joins, FromTo-weaker, Grew-joins, TakesCount-joins, TakesCount-none}
 use Rattle.relayout_cli.specs.Pages.{IsAt}
-use Rattle.relayout_cli.specs.Runs.{Outside, Run, AnswersLines, Served, ServedWhole, BreaksOff, IsWritten, BeginsWithLog, HasBegun, HasBegunBy, BeginsReplies, Wrote, LogsOnce, AllOnce, FaultsBy, CountBy, TakenBy, IsUntroubled, HasFewer, IsDoneButForMemory, Serves}
+use Rattle.relayout_cli.specs.Runs.{Outside, Run, AnswersLines, Served, ServedWhole, BreaksOff, IsWritten, most_of_first, HasBegunBy, BeginsReplies, Wrote, LogsOnce, AllOnce, FaultsBy, CountBy, TakenBy, IsUntroubled, HasFewer, IsDoneButForMemory, Serves}
 use Rattle.relayout_cli.specs.declared.status.Status.{Status}
 use Rattle.relayout_cli.specs.declared.status.Status.TheVariants.{Done, BadWords, ReadFault, WriteFault, NoMemory, InputSpent}
 use Rattle.relayout_cli.specs.declared.page.Page.{Page}
@@ -35,9 +35,9 @@ AllOnce-append : (a b : List Log) → AllOnce a → AllOnce b → AllOnce (a ++ 
 AllOnce-append [] b p q = q
 AllOnce-append (log ∷ a) b p q = (p.0, AllOnce-append a b p.1 q)
 
-pub AllOnce-empty : (b : Bool) → AllOnce (empty_logs b)
-AllOnce-empty true = (tt, tt)
-AllOnce-empty false = tt
+pub AllOnce-empty : (n : ℕ) → AllOnce (empty_logs n)
+AllOnce-empty zero = tt
+AllOnce-empty (suc n) = (tt, AllOnce-empty n)
 
 -- more logs were added to a ledger that had these
 logged-more : (es es1 es2 : List Event) (logs own : List Log) → es1 ≡ es ++ events logs → es2 ≡ es1 ++ events own → es2 ≡ es ++ events (logs ++ own)
@@ -309,14 +309,14 @@ pub Fronts-fresh : (left : Option (List ℕ)) → Fronts (ahead [] left) left
 Fronts-fresh None = tt
 Fronts-fresh (Some x) = ([], refl)
 
--- a line that begins a log is the first of those ahead
-pub begins-with : (mid left' : Option (List ℕ)) (stopped' : Option Line) (asked : Asked) (rest : List ℕ) → FromTo mid left' (λ all r. (line : List ℕ) × IsFirstLine line stopped' all r × (asked_of_line line ≡ asked))
-    → mid ≡ Some rest → begins_log asked ≡ true → BeginsWithLog (lines rest)
-begins-with None left' stopped' asked rest f e h = absurd (cc)
-begins-with (Some x) None stopped' asked rest f e h = absurd f
-begins-with (Some x) (Some y) stopped' asked rest f e h =
+-- what a line asks for that is the first of those ahead
+pub first-asks : (mid left' : Option (List ℕ)) (stopped' : Option Line) (asked : Asked) (rest : List ℕ) → FromTo mid left' (λ all r. (line : List ℕ) × IsFirstLine line stopped' all r × (asked_of_line line ≡ asked))
+    → mid ≡ Some rest → most_of_first (lines rest) ≡ most_logs asked
+first-asks None left' stopped' asked rest f e = absurd (cc)
+first-asks (Some x) None stopped' asked rest f e = absurd f
+first-asks (Some x) (Some y) stopped' asked rest f e =
     let same : x ≡ rest = cc in
-    subst (λ (z : List ℕ). BeginsWithLog (lines z)) same (subst BeginsWithLog (sym f.1.first) (ap begins_log f.2 ∙ h))
+    subst (λ (z : List ℕ). most_of_first (lines z) ≡ most_logs asked) same (ap most_of_first f.1.first ∙ ap most_logs f.2)
 
 -- whole replies were written
 begins-replies : (setting : Setting) (status : Status) (b n n' : Outside) (all mid rest front : List ℕ) (page : Option Page) (stopped : Option Line) (begun : List Log)
@@ -509,7 +509,7 @@ ends setting status run words done off wrote once faults taken = record {
 pub ends-new : (setting : Setting) (b : Outside) → Serves setting NoMemory (run_of b b)
 ends-new setting b =
     ends setting NoMemory (run_of b b) (λ e. absurd (cc)) (λ e. absurd (cc)) tt
-    (Wrote-told setting NoMemory b b b (ahead [] b.source.left) None None [] (λ first text. refl) refl (sym (append-nil b.ledger)) (λ rest e. inl refl) (Told-start setting b) (Fronts-fresh b.source.left))
+    (Wrote-told setting NoMemory b b b (ahead [] b.source.left) None None [] (λ first text. refl) refl (sym (append-nil b.ledger)) (λ rest e. omega arith) (Told-start setting b) (Fronts-fresh b.source.left))
     (LogsOnce-none b.ledger) (refl, refl) (0, omega arith, omega arith, TakesCount-none b.source.left 0 refl)
 
 abbrev pub with_source : Outside → SourceState → Outside
@@ -541,7 +541,7 @@ pub ends-unread : (setting : Setting) (b n : Outside) (s' : SourceState) (old ne
     → Fronts (ahead old.pending n.source.left) (ahead new.pending s'.left) × (s'.faults ≡ n.source.faults) → Serves setting NoMemory (run_of b (with_source n s'))
 ends-unread setting b n s' old new page s a end =
     ends setting NoMemory (run_of b (with_source n s')) (λ e. absurd (cc)) (λ e. absurd (cc)) tt
-    (Wrote-told setting NoMemory b n (with_source n s') (ahead old.pending n.source.left) page old.stopped [] (λ first text. refl) refl (sym (append-nil n.ledger)) (λ rest e. inl refl) s.told (Fronts-ahead (ahead old.pending n.source.left) s'.left new.pending end.0))
+    (Wrote-told setting NoMemory b n (with_source n s') (ahead old.pending n.source.left) page old.stopped [] (λ first text. refl) refl (sym (append-nil n.ledger)) (λ rest e. omega arith) s.told (Fronts-ahead (ahead old.pending n.source.left) s'.left new.pending end.0))
     s.once (end.1 ∙ s.source, s.sink) (taken-by setting NoMemory b n (with_source n s') old new page s a a.bounded)
 
 -- the sink failed at a reply
@@ -554,18 +554,13 @@ ends-cut setting b n n' old new page page' asked s next a turn =
     (LogsOnce-more b.ledger n.ledger n'.ledger turn.0.own s.once turn.0.once turn.0.logged)
     (next.faults ∙ s.source, subst (λ (k : ℕ). CountsFault k n'.sink.faults) s.sink turn.2) (taken-by setting WriteFault b n n' old new page s a a.bounded)
 
-begun-by : (begun : List Log) (asked : Asked) (mid left' : Option (List ℕ)) (stopped' : Option Line) → FromTo mid left' (λ all rest. (line : List ℕ) × IsFirstLine line stopped' all rest × (asked_of_line line ≡ asked))
-    → (begun ≡ []) ⊎ ((begins_log asked ≡ true) × ((log : Log) × (begun ≡ log ∷ []))) → (rest : List ℕ) → mid ≡ Some rest → HasBegun (lines rest) begun
-begun-by begun asked mid left' stopped' read (inl none) rest e = inl none
-begun-by begun asked mid left' stopped' read (inr one) rest e = inr (begins-with mid left' stopped' asked rest read e one.0, one.1)
-
 -- there was no memory for a reply
 pub ends-unanswered : (setting : Setting) (b n n' : Outside) (old new : Reader) (page : Option Page) (asked : Asked) → Serving setting b n old page → AsksNext asked old new n.source n'.source → ReadsOn old new n.source n'.source
     → Begins asked (record { sink = n.sink; ledger = n.ledger }) (record { sink = n'.sink; ledger = n'.ledger }) × (n'.sink ≡ n.sink) → Serves setting NoMemory (run_of b n')
 ends-unanswered setting b n n' old new page asked s next a turn =
     ends setting NoMemory (run_of b n') (λ e. absurd (cc)) (λ e. absurd (cc)) tt
     (Wrote-told setting NoMemory b n n' (ahead old.pending n.source.left) page old.stopped turn.0.begun (λ first text. refl) turn.1 turn.0.logged
-        (begun-by turn.0.begun asked (ahead old.pending n.source.left) (ahead new.pending n'.source.left) new.stopped next.line turn.0.few) s.told (Fronts-line (ahead old.pending n.source.left) n'.source.left new.pending new.stopped asked next.line))
+        (λ rest e. rw (first-asks (ahead old.pending n.source.left) (ahead new.pending n'.source.left) new.stopped asked rest next.line e) turn.0.few) s.told (Fronts-line (ahead old.pending n.source.left) n'.source.left new.pending new.stopped asked next.line))
     (LogsOnce-more b.ledger n.ledger n'.ledger turn.0.begun s.once turn.0.once turn.0.logged)
     (next.faults ∙ s.source, ap (λ (k : SinkState). k.faults) turn.1 ∙ s.sink) (taken-by setting NoMemory b n n' old new page s a a.bounded)
 
@@ -583,3 +578,7 @@ turns-told turn.NoMemory asked page page' sink sink' es es' reply own told respo
 pub Fronts-whole : (a b : Option (List ℕ)) (kept : List ℕ) (stopped : Option Line) → FromTo a b (Gives Whole kept stopped) → FromTo a b (λ all rest. (front : List ℕ) × (all ≡ front ++ rest))
 Fronts-whole a b kept stopped f =
     FromTo-weaker a b (Gives Whole kept stopped) (λ all rest. (front : List ℕ) × (all ≡ front ++ rest)) (λ x y g. (kept ++ line_end stopped, line-is kept x y stopped g.0.ends)) f
+
+pub counts-whole : (o : Option Line) (old new : SourceState) → CountsFaults o Whole old new → new.faults ≡ old.faults
+counts-whole None old new e = e
+counts-whole (Some x) old new e = e

@@ -1,12 +1,12 @@
 -- What serving a script answers and leaves.
-use Rattle.std.specs.Prelude.{◌≡◌, ◌≢◌, ◌⊎◌, ◌^◌, ◌+◌, ◌<◌, ◌≤◌, ℕ, length, Some, None, List, [], ◌∷◌, ◌++◌, take, true, Option}
+use Rattle.std.specs.Prelude.{◌≡◌, ◌≢◌, ◌⊎◌, ◌^◌, ◌+◌, ◌<◌, ◌≤◌, ℕ, length, Some, None, List, [], ◌∷◌, ◌++◌, take, Option}
 use Rattle.stream_model.specs.Streams.{SourceState, SinkState, FromTo, last_count, CountsFault, Grew, TakesCount}
 use Rattle.stream_model.specs.Lines.{lines, whole_lines}
 use Rattle.stream_model.specs.Ledger.{Event, Log, events}
 use Rattle.stream_model.specs.Lists.{AreDistinct}
 use Rattle.stream_model.specs.declared.limits.TheConstants.{MAX_TAKEN}
 use Rattle.request_model.specs.Requests.{asked_of_line}
-use Rattle.request_model.specs.States.{begins_log}
+use Rattle.request_model.specs.States.{most_logs}
 use Rattle.layout_model.specs.Setting.{Setting, default_advances}
 use Rattle.reply_model.specs.Replies.{Replies}
 use Rattle.relayout_cli.specs.declared.status.Status.{Status}
@@ -82,14 +82,14 @@ IsWritten setting WriteFault first text bytes = IsCutShort setting first text by
 IsWritten setting NoMemory first text bytes = bytes ≡ text
 IsWritten setting InputSpent first text bytes = bytes ≡ text
 
--- the first of these lines asks for what begins a log
-abbrev pub BeginsWithLog : List (List ℕ) → Type 0
-BeginsWithLog [] = ⊥
-BeginsWithLog (line ∷ others) = begins_log (asked_of_line line) ≡ true
+-- the most logs that the first of these lines begins
+abbrev pub most_of_first : List (List ℕ) → ℕ
+most_of_first [] = 0
+most_of_first (line ∷ others) = most_logs (asked_of_line line)
 
--- the logs that the first of these lines has begun, if memory ran out at it: none, or one that may be cut short
+-- the logs that the first of these lines has begun, where memory ran out at it: the last of them may be cut short
 abbrev pub HasBegun : List (List ℕ) → List Log → Type 0
-HasBegun others begun = (begun ≡ []) ⊎ (BeginsWithLog others × ((log : Log) × (begun ≡ log ∷ [])))
+HasBegun others begun = length begun ≤ most_of_first others
 
 -- the logs beside those of the lines that were answered, by how a run ended
 abbrev pub HasBegunBy : Status → List (List ℕ) → List Log → Type 0

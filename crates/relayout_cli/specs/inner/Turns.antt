@@ -1,9 +1,9 @@
 -- What answering one line does.
-use Rattle.std.specs.Prelude.{◌≡◌, ◌⊎◌, ℕ, List, [], ◌∷◌, ◌++◌, Bool, true, false, Option}
+use Rattle.std.specs.Prelude.{◌≡◌, ◌≤◌, ℕ, zero, suc, length, List, [], ◌∷◌, ◌++◌, Option}
 use Rattle.stream_model.specs.Streams.{SinkState, CountsFault, Appends, AppendsPart}
 use Rattle.stream_model.specs.Ledger.{Event, Log, events}
 use Rattle.request_model.specs.Requests.{Asked}
-use Rattle.request_model.specs.States.{begins_log}
+use Rattle.request_model.specs.States.{most_logs}
 use Rattle.layout_model.specs.Setting.{Setting}
 use Rattle.reply_model.specs.Replies.{Course, IsTurn}
 use Rattle.relayout_cli.specs.Pages.{IsAt}
@@ -12,10 +12,10 @@ use Rattle.relayout_cli.specs.declared.page.Page.{Page}
 use Rattle.relayout_cli.specs.declared.serving.Turn.{Turn}
 use Rattle.relayout_cli.specs.declared.serving.Turn.TheVariants as turn
 
--- the logs of a line while nothing is counted: an empty one where it begins a log
-abbrev pub empty_logs : Bool → List Log
-empty_logs true = [] ∷ []
-empty_logs false = []
+-- the logs of a line while nothing is counted
+abbrev pub empty_logs : ℕ → List Log
+empty_logs zero = []
+empty_logs (suc n) = [] ∷ empty_logs n
 
 -- from each place that what was kept stands for, the turn with these logs and this reply leads to one that what is kept stands for
 abbrev pub IsResponse : Asked → List Log → List ℕ → Option Page → Option Page → Type 0
@@ -38,7 +38,7 @@ pub record Responds (asked : Asked) (page page' : Option Page) (old new : Outcom
 -- the logs that a line has begun at which memory ran out
 pub record Begins (asked : Asked) (old new : Outcome) : Type 0 where
   pub begun : List Log
-  pub few : (begun ≡ []) ⊎ ((begins_log asked ≡ true) × ((log : Log) × (begun ≡ log ∷ [])))
+  pub few : length begun ≤ most_logs asked
   pub once : AllOnce begun
   pub logged : new.ledger ≡ old.ledger ++ events begun
 
