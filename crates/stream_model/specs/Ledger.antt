@@ -1,5 +1,5 @@
 -- The ledger of counted work: pairs of a kind and an element, and marks that part the requests.
-use Rattle.std.specs.Prelude.{ℕ, ◌+◌, List, [], ◌∷◌, ◌++◌, Bool, true, false, if◌then◌else◌}
+use Rattle.std.specs.Prelude.{ℕ, ◌+◌, map, List, [], ◌∷◌, ◌++◌, Bool, true, false, if◌then◌else◌}
 use Rattle.stream_model.specs.declared.kind.Kind.{Kind}
 use Rattle.stream_model.specs.declared.kind.Kind.TheVariants.{Match, Style, Measure, Size, Place}
 
@@ -13,8 +13,7 @@ abbrev pub Log : Type 0
 Log = List (Kind × ℕ)
 
 abbrev pub pairs : Log → List Event
-pairs [] = []
-pairs (p ∷ log) = pair p.0 p.1 ∷ pairs log
+pairs log = map (λ p. pair p.0 p.1) log
 
 -- what loads and edits with these logs add to a ledger: a mark each, and its pairs after it
 abbrev pub events : List Log → List Event
