@@ -1,5 +1,5 @@
 -- What a reader that has not stopped reads, and what one that has stopped keeps.
-use Rattle.std.specs.Prelude.{◌≡◌, ℕ, ◌-◌, ◌<◌, ◌≤◌, [], Option, Some, None}
+use Rattle.std.specs.Prelude.{◌≡◌, ◌-◌, ◌<◌, ◌≤◌, [], Option, Some, None}
 use Rattle.stream_model.specs.Streams.{SourceState, FromTo, Grew, TakesCount}
 use Rattle.stream_model.specs.declared.limits.TheConstants.{MAX_TAKEN}
 use Rattle.port_core.specs.Reader.{Reader, ahead, Gives, Stops, KeepsLine, Spends, CountsFaults, WorksOff}
