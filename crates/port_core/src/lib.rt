@@ -1,4 +1,5 @@
-//! The edge of the program: what its bytes come from and go to, the lines in them, the ledger of counted work, texts and lists.
+//! The edge of the program: where bytes come from and go to, the lines in them, the ledger of
+//! counted work, texts and lists.
 #![tactic(auto)]
 
 mod bytes;

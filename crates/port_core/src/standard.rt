@@ -23,7 +23,11 @@ impl<R: Read + Drop> Model for StdSource<R> {
 
     ghost Value = { SourceState };
 
-    ghost view = { λ s. record { left = R.remaining s.reader; taken = s.taken; faults = s.faults } };
+    ghost view = { λ s. record {
+      left = R.remaining s.reader;
+      taken = s.taken;
+      faults = s.faults;
+    } };
 
     ghost invariant = { λ s. (s.taken < 2 ^ 64) × (s.faults < 2 ^ 64) };
 }
