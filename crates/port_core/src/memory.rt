@@ -167,3 +167,31 @@ impl Sink for MemSink {
         Push::Failed
     }
 }
+
+#[cfg(test)]
+mod tests {
+    use crate::{MemSink, MemSource, Pull, Push, Sink, Source};
+    use std::test::Fail;
+
+    #[test]
+    fn fails_at_its_place_each_time(rt: HostRuntime) -> Result<(), Fail> {
+        let mut source = MemSource::new(rt.alloc(), b"abc", 2, Some(3))?;
+        let mut buf = [0; 8];
+        assert_eq!(rt; source.pull(&mut buf), Pull::Bytes(2));
+        assert_eq!(rt; source.pull(&mut buf), Pull::Bytes(1));
+        assert_eq!(rt; buf[0], b'c');
+        assert_eq!(rt; source.pull(&mut buf), Pull::Failed);
+        assert_eq!(rt; source.pull(&mut buf), Pull::Failed);
+        Ok(())
+    }
+
+    #[test]
+    fn holds_as_much_as_its_room(rt: HostRuntime) -> Result<(), Fail> {
+        let mut sink = MemSink::new(rt.alloc(), 10)?;
+        assert_eq!(rt; sink.push(b"ok 0 1\n"), Push::Done);
+        assert_eq!(rt; sink.push(b"box 1"), Push::Failed);
+        assert_eq!(rt; sink.push(b""), Push::Done);
+        assert_eq!(rt; sink.bytes(), b"ok 0 1\nbox".as_slice());
+        Ok(())
+    }
+}

@@ -141,3 +141,63 @@ impl LineReader {
         }
     }
 }
+
+#[cfg(test)]
+mod tests {
+    use crate::{Line, LineReader, MemSource, NoMemory};
+    use std::alloc::Global;
+    use std::test::Fail;
+
+    /// The lines of `source`, each with a `/` after it, and the answer after them, twice.
+    fn read_all(alloc: Global, source: &mut MemSource) -> Result<(Vec<u8>, [Line; 2]), NoMemory> {
+        let mut reader = LineReader::new(alloc)?;
+        let mut told = Vec::new(alloc);
+        for _ in 0..100 {
+            match reader.next(source) {
+                Line::Whole => told.extend_from_slice(reader.line())?,
+                Line::TooLong => told.extend_from_slice(b"too long")?,
+                answer => return Ok((told, [answer, reader.next(source)])),
+            }
+            told.push(b'/')?;
+        }
+        Ok((told, [Line::Whole; 2]))
+    }
+
+    #[test]
+    fn reads_lines_in_any_pieces(rt: HostRuntime) -> Result<(), Fail> {
+        let table: [(&[u8], Option<u64>, &[u8], Line); 7] = [
+            (b"one\ntwo\n", None, b"one/two/", Line::End),
+            (b"one\ntwo", None, b"one/two/", Line::End),
+            (b"one\n\ntwo\n", None, b"one//two/", Line::End),
+            (b"", None, b"", Line::End),
+            (b"one\ntwo\n", Some(6), b"one/", Line::Failed),
+            (b"one\ntwo\n", Some(8), b"one/two/", Line::Failed),
+            (b"one\ntwo\n", Some(0), b"", Line::Failed),
+        ];
+        for (bytes, fail_at, want, answer) in table {
+            for piece in [1, 2, 3, 7, 100] {
+                let mut source = MemSource::new(rt.alloc(), bytes, piece, fail_at)?;
+                let (told, last) = read_all(rt.alloc(), &mut source)?;
+                assert_eq!(rt; told.as_slice(), want, "in pieces of {piece}");
+                assert_eq!(rt; last, [answer; 2], "in pieces of {piece}");
+            }
+        }
+        Ok(())
+    }
+
+    #[test]
+    fn reads_past_a_line_that_is_too_long(rt: HostRuntime) -> Result<(), Fail> {
+        let mut bytes = vec![in rt.alloc(); b'x'; 4_194_304]?;
+        bytes.push(b'\n')?;
+        let longest = bytes.len();
+        bytes.extend_from_slice(&vec![in rt.alloc(); b'y'; 4_194_305]?)?;
+        bytes.extend_from_slice(b"\nok\n")?;
+        let mut source = MemSource::new(rt.alloc(), &bytes, 100_000, None)?;
+        let (told, last) = read_all(rt.alloc(), &mut source)?;
+        assert_eq!(rt; last, [Line::End; 2]);
+        assert_eq!(rt; told.len(), longest + 12);
+        assert!(rt; told.as_slice().starts_with(b"xxx"));
+        assert!(rt; told.as_slice().ends_with(b"x/too long/ok/"));
+        Ok(())
+    }
+}

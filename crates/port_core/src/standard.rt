@@ -159,3 +159,90 @@ fn push_of(flush: io::Result<()>) -> Push
         Err(_) => Push::Failed,
     }
 }
+
+#[cfg(test)]
+mod tests {
+    use crate::{Pull, Push, Sink, Source, StdSink, StdSource};
+    use std::io::{self, ErrorKind, Read, Write};
+
+    /// A reader of which the second call fails, and so does each call after its last byte.
+    #[derive(Drop)]
+    struct Stumbling<'a> {
+        bytes: &'a [u8],
+        calls: u8,
+    }
+
+    impl<'a> Read for Stumbling<'a> {
+        fn read(&mut self, buf: &mut [u8]) -> io::Result<usize> {
+            self.calls = self.calls.saturating_add(1);
+            if self.calls == 2 || self.bytes.is_empty() {
+                return Err(io::Error::from(ErrorKind::TimedOut));
+            }
+            let count = buf.len().min(3);
+            self.bytes.read(&mut buf[..count])
+        }
+    }
+
+    #[test]
+    fn pulls_from_a_reader(rt: HostRuntime) {
+        let whole: &[u8] = b"one";
+        let mut source = StdSource::new(whole);
+        let mut buf = [0; 8];
+        assert_eq!(rt; source.pull(&mut buf), Pull::Bytes(3));
+        assert_eq!(rt; source.pull(&mut buf), Pull::End);
+
+        let mut source = StdSource::new(Stumbling {
+            bytes: b"one\ntwo",
+            calls: 0,
+        });
+        for want in [
+            Pull::Bytes(3),
+            Pull::Failed,
+            Pull::Bytes(3),
+            Pull::Bytes(1),
+            Pull::Failed,
+        ] {
+            assert_eq!(rt; source.pull(&mut buf), want);
+        }
+    }
+
+    /// A writer that takes two bytes a call as far as its room goes, and marks each flush by a `/`.
+    /// A flush fails where the room is used up.
+    #[derive(Drop)]
+    struct Narrow<'a> {
+        taken: &'a mut Vec<u8>,
+        room: usize,
+    }
+
+    impl<'a> Write for Narrow<'a> {
+        fn write(&mut self, bytes: &[u8]) -> io::Result<usize> {
+            let count = bytes.len().min(self.room).min(2);
+            self.taken.extend_from_slice(&bytes[..count])?;
+            self.room -= count;
+            Ok(count)
+        }
+
+        fn flush(&mut self) -> io::Result<()> {
+            self.taken.push(b'/')?;
+            if self.room == 0 {
+                return Err(io::Error::from(ErrorKind::TimedOut));
+            }
+            Ok(())
+        }
+    }
+
+    #[test]
+    fn pushes_to_a_writer(rt: HostRuntime) {
+        let mut taken = Vec::new(rt.alloc());
+        let mut sink = StdSink::new(Narrow {
+            taken: &mut taken,
+            room: 10,
+        });
+        // All is written and flushed; all is written and the flush fails; nothing more is written.
+        assert_eq!(rt; sink.push(b"ok 0 1\n"), Push::Done);
+        assert_eq!(rt; sink.push(b"box"), Push::Failed);
+        assert_eq!(rt; sink.push(b"1"), Push::Failed);
+        drop(sink);
+        assert_eq!(rt; taken.as_slice(), b"ok 0 1\n/box/".as_slice());
+    }
+}

@@ -135,3 +135,22 @@ fn start() -> Snapshot<Past>
 {
     Snapshot::of(&Past::Start)
 }
+
+#[cfg(test)]
+mod tests {
+    use crate::{Kind, Steps};
+
+    #[test]
+    fn counts_since_the_last_mark(rt: HostRuntime) {
+        let mut steps = Steps::new(());
+        steps.tick(Kind::Match, 1);
+        steps.tick(Kind::Match, 2);
+        steps.tick(Kind::Style, 1);
+        assert_eq!(rt; steps.count(Kind::Match), 2);
+        assert_eq!(rt; steps.count(Kind::Style), 1);
+        steps.mark();
+        steps.tick(Kind::Place, 3);
+        assert_eq!(rt; steps.count(Kind::Match), 0);
+        assert_eq!(rt; steps.count(Kind::Place), 1);
+    }
+}
