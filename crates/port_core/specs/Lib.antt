@@ -1,3 +1,4 @@
+pub mod Text
 pub mod Ports
 pub mod Memory
 pub mod Standard
