@@ -4,3 +4,4 @@ pub mod LinesLemmas
 pub mod MemoryLemmas
 pub mod ReadsLemmas
 pub mod StreamLemmas
+mod CharLemmas
