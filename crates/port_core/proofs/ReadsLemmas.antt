@@ -3,13 +3,13 @@ use Rattle.std.proofs.Common.{◌≡◌, ℕ, ◌<◌, ◌≤◌, List, [], ◌�
 use Rattle.stream_model.specs.Streams.{SourceState, FromTo, NothingLeft}
 use Rattle.stream_model.specs.Lines.{newline, lines, IsUnbroken}
 use Rattle.stream_model.specs.declared.limits.TheConstants.{MAX_LINE}
-use Rattle.port_core.specs.Draft.{IsDraftOf, Settles}
+use Rattle.port_core.specs.inner.Draft.{IsDraftOf, Settles}
 use Rattle.port_core.specs.Reader.{Reader, ahead, IsFirstLine, Gives}
-use Rattle.port_core.specs.Reads.{Reads}
-use Rattle.port_core.specs.Window.{Intake, TakesUp, TakesUpLine, CollectsLine, CollectsLast}
+use Rattle.port_core.specs.inner.Reads.{Reads}
+use Rattle.port_core.specs.inner.Window.{Intake, TakesUp, TakesUpLine, CollectsLine, CollectsLast}
 use Rattle.port_core.specs.declared.reader.Line.{Line}
 use Rattle.port_core.specs.declared.reader.Line.TheVariants.{Whole, TooLong, End, Failed, Spent}
-use Rattle.port_core.proofs.LineLemmas.{lines-newline, lines-last}
+use Rattle.port_core.proofs.LinesLemmas.{lines-newline, lines-last}
 use Rattle.port_core.proofs.StreamLemmas.{FromTo-weaker}
 
 -- a draft that is no longer than a line may be is the whole front

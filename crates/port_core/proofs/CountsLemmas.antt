@@ -5,7 +5,7 @@ use Rattle.stream_model.specs.Ledger.{Event, pair, mark, is_same, has_mark, coun
 use Rattle.stream_model.specs.declared.kind.Kind.{Kind}
 use Rattle.stream_model.specs.declared.kind.Kind.TheVariants.{Match, Style, Measure, Size, Place}
 use Rattle.port_core.specs.declared.steps.Counts.{Counts}
-use Rattle.port_core.specs.Past.{count_of, one_more, raised, CountsSinceMark}
+use Rattle.port_core.specs.inner.Past.{count_of, one_more, counts_after_pair, CountsSinceMark}
 
 has_mark-mark : (es : List Event) → has_mark (es ++ mark ∷ []) ≡ true
 has_mark-mark [] = refl
@@ -32,22 +32,22 @@ count_since_mark-pair kind k id (pair k' i ∷ es) =
     rw (has_mark-pair es k id) (omega (arith, count_since_mark-pair kind k id es))
 
 -- what raising the counts does to each of them
-count_of-raised : (c : Counts) (kind k : Kind) → count_of (raised c k) kind ≡ cond (is_same kind k) (one_more (count_of c kind)) (count_of c kind)
-count_of-raised c Match Match = refl
-count_of-raised c Style Style = refl
-count_of-raised c Measure Measure = refl
-count_of-raised c Size Size = refl
-count_of-raised c Place Place = refl
-count_of-raised c kind k = refl
+count_of-counts_after_pair : (c : Counts) (kind k : Kind) → count_of (counts_after_pair c k) kind ≡ cond (is_same kind k) (one_more (count_of c kind)) (count_of c kind)
+count_of-counts_after_pair c Match Match = refl
+count_of-counts_after_pair c Style Style = refl
+count_of-counts_after_pair c Measure Measure = refl
+count_of-counts_after_pair c Size Size = refl
+count_of-counts_after_pair c Place Place = refl
+count_of-counts_after_pair c kind k = refl
 
 one_more-min : (b : Bool) (n m : ℕ) → n ≡ min m last_count → cond b (one_more n) n ≡ min (m + cond b 1 0) last_count
 one_more-min true n m e = omega arith
 one_more-min false n m e = omega arith
 
 -- the counts after one more pair
-pub CountsSinceMark-pair : (c : Counts) (es : List Event) (k : Kind) (id : ℕ) → CountsSinceMark c es → CountsSinceMark (raised c k) (es ++ pair k id ∷ [])
+pub CountsSinceMark-pair : (c : Counts) (es : List Event) (k : Kind) (id : ℕ) → CountsSinceMark c es → CountsSinceMark (counts_after_pair c k) (es ++ pair k id ∷ [])
 CountsSinceMark-pair c es k id counts kind =
-    rw (count_of-raised c kind k, count_since_mark-pair kind k id es)
+    rw (count_of-counts_after_pair c kind k, count_since_mark-pair kind k id es)
     (one_more-min (is_same kind k) (count_of c kind) (count_since_mark kind es) (counts kind))
 
 count_of-none : (c : Counts) (kind : Kind) → c ≡ record { matches = 0; styles = 0; measures = 0; sizes = 0; places = 0 } → count_of c kind ≡ 0

@@ -3,10 +3,10 @@ use Rattle.std.proofs.Common.{◌≡◌, ℕ, ◌+◌, ◌-◌, ◌<◌, ◌≤�
 use Rattle.stream_model.specs.Streams.{SourceState, FromTo, Grew, Takes, TakesCount}
 use Rattle.stream_model.specs.Lines.{newline}
 use Rattle.stream_model.specs.declared.limits.TheConstants.{MAX_TAKEN}
-use Rattle.port_core.specs.Draft.{IsDraftOf, Absorbs}
+use Rattle.port_core.specs.inner.Draft.{IsDraftOf, Absorbs}
 use Rattle.port_core.specs.Reader.{ahead}
-use Rattle.port_core.specs.Window.{Intake, CutsLine, CutsPart, Fills, Rests, Moves, TakesUp, TakesUpLine, Collecting, CollectsLine, Halts}
-use Rattle.port_core.proofs.LineLemmas.{IsUnbroken-append}
+use Rattle.port_core.specs.inner.Window.{Intake, CutsLine, CutsPart, Fills, Rests, Advances, TakesUp, TakesUpLine, Collecting, CollectsLine, Halts}
+use Rattle.port_core.proofs.LinesLemmas.{IsUnbroken-append}
 use Rattle.port_core.proofs.StreamLemmas.{TakesCount-none, TakesCount-takes, TakesCount-joins, Grew-joins}
 
 -- a draft that takes up a piece
@@ -23,8 +23,8 @@ Intake-same v w e f =
     ap (λ (p : List ℕ). let x : Intake = record { pending = p; taken = v.taken } in x) e
     ∙ ap (λ (t : ℕ). let x : Intake = record { pending = w.pending; taken = t } in x) f
 
-Moves-none : (w : Intake) (s : SourceState) → w.taken ≤ MAX_TAKEN → Moves w w s s
-Moves-none w s small = record {
+Advances-none : (w : Intake) (s : SourceState) → w.taken ≤ MAX_TAKEN → Advances w w s s
+Advances-none w s small = record {
   forward = omega arith;
   bounded = small;
   grew = omega arith;
@@ -32,8 +32,8 @@ Moves-none w s small = record {
   effort_falls = omega arith;
 }
 
-pub Moves-joins : (u v w : Intake) (r s t : SourceState) → Moves u v r s → Moves v w s t → Moves u w r t
-Moves-joins u v w r s t m n =
+pub Advances-joins : (u v w : Intake) (r s t : SourceState) → Advances u v r s → Advances v w s t → Advances u w r t
+Advances-joins u v w r s t m n =
     let sums : (v.taken - u.taken) + (w.taken - v.taken) ≡ w.taken - u.taken = omega (arith, m.forward, n.forward) in
     record {
       forward = omega (arith, m.forward, n.forward);
@@ -44,8 +44,8 @@ Moves-joins u v w r s t m n =
     }
 
 -- pending bytes were taken out, and none of the source
-pub Moves-cut : (v w : Intake) (s : SourceState) → v.taken ≤ MAX_TAKEN → w.taken ≡ v.taken → length w.pending ≤ length v.pending → Moves v w s s
-Moves-cut v w s small e less = record {
+pub Advances-cut : (v w : Intake) (s : SourceState) → v.taken ≤ MAX_TAKEN → w.taken ≡ v.taken → length w.pending ≤ length v.pending → Advances v w s s
+Advances-cut v w s small e less = record {
   forward = omega arith;
   bounded = omega arith;
   grew = omega arith;
@@ -53,8 +53,8 @@ Moves-cut v w s small e less = record {
   effort_falls = omega arith;
 }
 
-Moves-fills : (v w : Intake) (s t : SourceState) → Fills v w s t → Moves v w s t
-Moves-fills v w s t f =
+Advances-fills : (v w : Intake) (s t : SourceState) → Fills v w s t → Advances v w s t
+Advances-fills v w s t f =
     let same : length w.pending ≡ w.taken - v.taken = omega (arith, f.count) in
     record {
       forward = omega (arith, f.count);
@@ -64,8 +64,8 @@ Moves-fills v w s t f =
       effort_falls = omega (arith, f.count, f.bounded);
     }
 
-Moves-rests : (v w : Intake) (s t : SourceState) → v.taken ≤ MAX_TAKEN → v.pending ≡ [] → Rests v w s t → Moves v w s t
-Moves-rests v w s t small e r = record {
+Advances-rests : (v w : Intake) (s t : SourceState) → v.taken ≤ MAX_TAKEN → v.pending ≡ [] → Rests v w s t → Advances v w s t
+Advances-rests v w s t small e r = record {
   forward = omega (arith, r.count);
   bounded = omega (arith, r.count);
   grew = omega (arith, r.count, r.taken_same);
@@ -74,19 +74,19 @@ Moves-rests v w s t small e r = record {
 }
 
 -- before anything was read
-start_bytes : (pending draft : List ℕ) (a : Option (List ℕ)) → draft ≡ [] → FromTo (ahead pending a) (ahead pending a) (TakesUp draft)
-start_bytes pending draft None e = tt
-start_bytes pending draft (Some x) e = record { front = []; unbroken = tt; same = refl; kept = inl e }
+bytes_at_start : (pending draft : List ℕ) (a : Option (List ℕ)) → draft ≡ [] → FromTo (ahead pending a) (ahead pending a) (TakesUp draft)
+bytes_at_start pending draft None e = tt
+bytes_at_start pending draft (Some x) e = record { front = []; unbroken = tt; same = refl; kept = inl e }
 
 pub Collecting-none : (w : Intake) (draft : List ℕ) (s : SourceState) → draft ≡ [] → w.taken ≤ MAX_TAKEN → Collecting w w draft s s
-Collecting-none w draft s e small = record { bytes = start_bytes w.pending draft s.left e; moves = Moves-none w s small }
+Collecting-none w draft s e small = record { bytes = bytes_at_start w.pending draft s.left e; moves = Advances-none w s small }
 
-part_bytes : (u v w : Intake) (draft draft' : List ℕ) (a b : Option (List ℕ)) → CutsPart v w draft draft'
+bytes_after_part : (u v w : Intake) (draft draft' : List ℕ) (a b : Option (List ℕ)) → CutsPart v w draft draft'
     → FromTo (ahead u.pending a) (ahead v.pending b) (TakesUp draft) → FromTo (ahead u.pending a) (ahead w.pending b) (TakesUp draft')
-part_bytes u v w draft draft' None None c r = tt
-part_bytes u v w draft draft' None (Some y) c r = absurd r
-part_bytes u v w draft draft' (Some x) None c r = absurd r
-part_bytes u v w draft draft' (Some x) (Some y) c r = record {
+bytes_after_part u v w draft draft' None None c r = tt
+bytes_after_part u v w draft draft' None (Some y) c r = absurd r
+bytes_after_part u v w draft draft' (Some x) None c r = absurd r
+bytes_after_part u v w draft draft' (Some x) (Some y) c r = record {
   front = r.front ++ v.pending;
   unbroken = IsUnbroken-append r.front v.pending r.unbroken c.unbroken;
   same = r.same ∙ (sym (append_assoc r.front v.pending y) ∙ ap (λ p. (r.front ++ v.pending) ++ (p ++ y)) (sym c.empty));
@@ -97,18 +97,18 @@ part_bytes u v w draft draft' (Some x) (Some y) c r = record {
 pub Collecting-part : (u v w : Intake) (draft draft' : List ℕ) (r s : SourceState) → CutsPart v w draft draft'
     → Collecting u v draft r s → Collecting u w draft' r s
 Collecting-part u v w draft draft' r s c so = record {
-  bytes = part_bytes u v w draft draft' r.left s.left c so.bytes;
-  moves = Moves-joins u v w r s s so.moves (Moves-cut v w s so.moves.bounded c.count (omega (arith, ap length c.empty)));
+  bytes = bytes_after_part u v w draft draft' r.left s.left c so.bytes;
+  moves = Advances-joins u v w r s s so.moves (Advances-cut v w s so.moves.bounded c.count (omega (arith, ap length c.empty)));
 }
 
-more_bytes : (u v w : Intake) (draft : List ℕ) (a b d : Option (List ℕ)) → v.pending ≡ [] → Takes b d w.pending
+bytes_after_more : (u v w : Intake) (draft : List ℕ) (a b d : Option (List ℕ)) → v.pending ≡ [] → Takes b d w.pending
     → FromTo (ahead u.pending a) (ahead v.pending b) (TakesUp draft) → FromTo (ahead u.pending a) (ahead w.pending d) (TakesUp draft)
-more_bytes u v w draft None None None e t r = tt
-more_bytes u v w draft None None (Some z) e t r = t
-more_bytes u v w draft None (Some y) d e t r = absurd r
-more_bytes u v w draft (Some x) None d e t r = absurd r
-more_bytes u v w draft (Some x) (Some y) None e t r = absurd t
-more_bytes u v w draft (Some x) (Some y) (Some z) e t r = record {
+bytes_after_more u v w draft None None None e t r = tt
+bytes_after_more u v w draft None None (Some z) e t r = t
+bytes_after_more u v w draft None (Some y) d e t r = absurd r
+bytes_after_more u v w draft (Some x) None d e t r = absurd r
+bytes_after_more u v w draft (Some x) (Some y) None e t r = absurd t
+bytes_after_more u v w draft (Some x) (Some y) (Some z) e t r = record {
   front = r.front;
   unbroken = r.unbroken;
   same = r.same ∙ ap (λ p. r.front ++ (p ++ y)) e ∙ ap (λ p. r.front ++ p) t;
@@ -119,8 +119,8 @@ more_bytes u v w draft (Some x) (Some y) (Some z) e t r = record {
 pub Collecting-more : (u v w : Intake) (draft : List ℕ) (r s t : SourceState) → v.pending ≡ [] → Fills v w s t
     → Collecting u v draft r s → Collecting u w draft r t
 Collecting-more u v w draft r s t e f so = record {
-  bytes = more_bytes u v w draft r.left s.left t.left e f.takes so.bytes;
-  moves = Moves-joins u v w r s t so.moves (Moves-fills v w s t f);
+  bytes = bytes_after_more u v w draft r.left s.left t.left e f.takes so.bytes;
+  moves = Advances-joins u v w r s t so.moves (Advances-fills v w s t f);
 }
 
 -- nothing was pulled
@@ -128,16 +128,16 @@ pub Collecting-rests : (u v w : Intake) (draft : List ℕ) (r s t : SourceState)
     → Collecting u v draft r s → Collecting u w draft r t
 Collecting-rests u v w draft r s t e rests so = record {
   bytes = rw rests.left_same (subst (λ (p : List ℕ). FromTo (ahead u.pending r.left) (ahead p s.left) (TakesUp draft)) (e ∙ sym rests.empty) so.bytes);
-  moves = Moves-joins u v w r s t so.moves (Moves-rests v w s t so.moves.bounded e rests);
+  moves = Advances-joins u v w r s t so.moves (Advances-rests v w s t so.moves.bounded e rests);
 }
 
 -- the newline was found
-pub line_bytes : (u v w : Intake) (draft draft' : List ℕ) (a b : Option (List ℕ)) → CutsLine v w draft draft'
+pub bytes_after_line : (u v w : Intake) (draft draft' : List ℕ) (a b : Option (List ℕ)) → CutsLine v w draft draft'
     → FromTo (ahead u.pending a) (ahead v.pending b) (TakesUp draft) → FromTo (ahead u.pending a) (ahead w.pending b) (TakesUpLine draft')
-line_bytes u v w draft draft' None None c r = tt
-line_bytes u v w draft draft' None (Some y) c r = absurd r
-line_bytes u v w draft draft' (Some x) None c r = absurd r
-line_bytes u v w draft draft' (Some x) (Some y) c r =
+bytes_after_line u v w draft draft' None None c r = tt
+bytes_after_line u v w draft draft' None (Some y) c r = absurd r
+bytes_after_line u v w draft draft' (Some x) None c r = absurd r
+bytes_after_line u v w draft draft' (Some x) (Some y) c r =
     let piece = c.piece in
     record {
       front = r.front ++ piece;
@@ -156,8 +156,8 @@ pub CollectsLine-cut : (u v w : Intake) (draft draft' : List ℕ) (r s : SourceS
 CollectsLine-cut u v w draft draft' r s c same so =
     let shorter : length w.pending < length v.pending = CutsLine-shorter v w draft draft' c in
     record {
-      bytes = line_bytes u v w draft draft' r.left s.left c so.bytes;
-      moves = Moves-joins u v w r s s so.moves (Moves-cut v w s so.moves.bounded c.count (omega arith));
+      bytes = bytes_after_line u v w draft draft' r.left s.left c so.bytes;
+      moves = Advances-joins u v w r s s so.moves (Advances-cut v w s so.moves.bounded c.count (omega arith));
       effort_less = omega (arith, so.moves.effort_falls, c.count);
       faults = same;
     }

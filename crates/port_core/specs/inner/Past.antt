@@ -1,4 +1,4 @@
--- What a ledger remembers, and the events that it stands for.
+-- What a ledger keeps, and the events that it stands for.
 use Rattle.std.specs.Prelude.{◌≡◌, ℕ, ◌+◌, min, List, [], ◌∷◌, ◌++◌}
 use Rattle.stream_model.specs.Streams.{last_count}
 use Rattle.stream_model.specs.Ledger.{Event, pair, mark, count_since_mark}
@@ -8,7 +8,7 @@ use Rattle.port_core.specs.declared.steps.Past.{Past}
 use Rattle.port_core.specs.declared.steps.Past.TheVariants.{Start, Noted', Marked'}
 use Rattle.port_core.specs.declared.steps.Counts.{Counts}
 
--- the events of a past, the oldest first
+-- the events of a past, the first one first
 abbrev pub events_of : Past → List Event
 events_of Start = []
 events_of (Noted' p before kind id) = events_of before ++ pair kind id ∷ []
@@ -22,18 +22,18 @@ count_of c Measure = c.measures
 count_of c Size = c.sizes
 count_of c Place = c.places
 
--- one more, as far as the last count
+-- one more, up to the last count
 abbrev pub one_more : ℕ → ℕ
 one_more n = min (n + 1) last_count
 
 -- the counts after one more pair of a kind
-abbrev pub raised : Counts → Kind → Counts
-raised c Match = record c { matches = one_more c.matches }
-raised c Style = record c { styles = one_more c.styles }
-raised c Measure = record c { measures = one_more c.measures }
-raised c Size = record c { sizes = one_more c.sizes }
-raised c Place = record c { places = one_more c.places }
+abbrev pub counts_after_pair : Counts → Kind → Counts
+counts_after_pair c Match = record c { matches = one_more c.matches }
+counts_after_pair c Style = record c { styles = one_more c.styles }
+counts_after_pair c Measure = record c { measures = one_more c.measures }
+counts_after_pair c Size = record c { sizes = one_more c.sizes }
+counts_after_pair c Place = record c { places = one_more c.places }
 
--- each count is that of the events since the last mark
+-- each count is that of the events, up to the last count
 abbrev pub CountsSinceMark : Counts → List Event → Type 0
 CountsSinceMark c es = (kind : Kind) → count_of c kind ≡ min (count_since_mark kind es) last_count

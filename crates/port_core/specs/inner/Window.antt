@@ -1,9 +1,9 @@
--- What a window onto a source has, and how a line is collected through it.
+-- A window onto a source, and how a line is collected through it.
 use Rattle.std.specs.Prelude.{◌≡◌, ℕ, ◌+◌, ◌-◌, ◌*◌, ◌<◌, ◌≤◌, List, [], ◌∷◌, ◌++◌, length}
 use Rattle.stream_model.specs.Streams.{SourceState, FromTo, CountsFault, Grew, NothingLeft, Takes, TakesCount}
 use Rattle.stream_model.specs.Lines.{newline, IsUnbroken}
 use Rattle.stream_model.specs.declared.limits.TheConstants.{MAX_TAKEN}
-use Rattle.port_core.specs.Draft.{IsDraftOf, Absorbs}
+use Rattle.port_core.specs.inner.Draft.{IsDraftOf, Absorbs}
 use Rattle.port_core.specs.Reader.{ahead}
 use Rattle.port_core.specs.declared.window.Cut.{Cut}
 use Rattle.port_core.specs.declared.window.Cut.TheVariants as cut
@@ -12,12 +12,12 @@ use Rattle.port_core.specs.declared.window.Refill.TheVariants as refill
 use Rattle.port_core.specs.declared.window.Stop.{Stop}
 use Rattle.port_core.specs.declared.window.Stop.TheVariants as stop
 
--- what was pulled and not given yet, and how many bytes were taken
+-- a window: the bytes that were pulled and not moved into a line yet, and how many were pulled in its life
 pub record Intake : Type 0 where
   pub pending : List ℕ
   pub taken : ℕ
 
--- how much a window can still do: it falls with each byte
+-- a measure of what a window can still do: it falls with each byte
 abbrev pub effort : Intake → ℕ
 effort w = 2 * (MAX_TAKEN - w.taken) + length w.pending
 
@@ -58,7 +58,7 @@ pub record Rests (old new : Intake) (source source' : SourceState) : Type 0 wher
   pub taken_same : source'.taken ≡ source.taken
 
 -- the source has ended, before the window took all that it may
-pub record Ends (old new : Intake) (source source' : SourceState) : Type 0 where
+pub record FindsEnd (old new : Intake) (source source' : SourceState) : Type 0 where
   pub rests : Rests old new source source'
   pub nothing : NothingLeft source'.left
   pub early : new.taken < MAX_TAKEN
@@ -79,12 +79,12 @@ pub record IsSpent (old new : Intake) (source source' : SourceState) : Type 0 wh
 -- what one pull does where nothing is pending, by what it found
 abbrev pub Refills : Refill → Intake → Intake → SourceState → SourceState → Type 0
 Refills refill.More old new source source' = Fills old new source source'
-Refills refill.End old new source source' = Ends old new source source'
+Refills refill.End old new source source' = FindsEnd old new source source'
 Refills refill.Failed old new source source' = Fails old new source source'
 Refills refill.Spent old new source source' = IsSpent old new source source'
 
 -- bytes were taken of the source, and the effort has not grown
-pub record Moves (old new : Intake) (source source' : SourceState) : Type 0 where
+pub record Advances (old new : Intake) (source source' : SourceState) : Type 0 where
   pub forward : old.taken ≤ new.taken
   pub bounded : new.taken ≤ MAX_TAKEN
   pub grew : Grew source.taken (new.taken - old.taken) source'.taken
@@ -108,12 +108,12 @@ pub record TakesUpLine (draft all rest : List ℕ) : Type 0 where
 -- while a line is collected: its front so far was taken up
 pub record Collecting (old new : Intake) (draft : List ℕ) (source source' : SourceState) : Type 0 where
   pub bytes : FromTo (ahead old.pending source.left) (ahead new.pending source'.left) (TakesUp draft)
-  pub moves : Moves old new source source'
+  pub moves : Advances old new source source'
 
 -- a line was collected up to its newline
 pub record CollectsLine (old new : Intake) (draft : List ℕ) (source source' : SourceState) : Type 0 where
   pub bytes : FromTo (ahead old.pending source.left) (ahead new.pending source'.left) (TakesUpLine draft)
-  pub moves : Moves old new source source'
+  pub moves : Advances old new source source'
   pub effort_less : effort new < effort old
   pub faults : source'.faults ≡ source.faults
 
@@ -148,7 +148,7 @@ Collects stop.End old new draft source source' = CollectsLast old new draft sour
 Collects stop.Failed old new draft source source' = BreaksOff old new draft source source'
 Collects stop.Spent old new draft source source' = RunsOut old new draft source source'
 
--- the pending bytes lie in the chunk, and no more were taken than may be
+-- the invariant of a window: the pending bytes are in the chunk, and no more were taken than may be
 pub record IsWindow (start end : ℕ) (chunk : List ℕ) (taken : ℕ) : Type 0 where
   pub ordered : start ≤ end
   pub within : end ≤ length chunk
