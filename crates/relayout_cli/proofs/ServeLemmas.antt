@@ -10,7 +10,7 @@ use Rattle.request_model.specs.Requests.{Asked, broken, asked_of_line}
 use Rattle.request_model.specs.States.{most_logs}
 use Rattle.layout_model.specs.Setting.{Setting}
 use Rattle.reply_model.specs.Replies.{Course, start, AreReplies, Replies, IsTurn}
-use Rattle.port_core.specs.Reader.{Reader, ahead, Gives, CountsFaults, IsFirstLine, EndsLine, HasNotFailed, work, fresh}
+use Rattle.port_core.specs.Reader.{Reader, ahead, Gives, CountsFaults, IsFirstLine, EndsLine, HasNotFailed, work, new_reader}
 use Rattle.port_core.specs.declared.reader.Line.{Line}
 use Rattle.port_core.specs.declared.reader.Line.TheVariants.{Whole, TooLong, End}
 use Rattle.port_core.proofs.StreamLemmas.{FromTo-joins, FromTo-weaker, Grew-joins, TakesCount-joins, TakesCount-none}
@@ -428,7 +428,7 @@ pub record Serving (setting : Setting) (b n : Outside) (reader : Reader) (page :
   pub source : n.source.faults ≡ b.source.faults
   pub sink : n.sink.faults ≡ b.sink.faults
 
-pub Serving-start : (setting : Setting) (b : Outside) → Serving setting b b fresh None
+pub Serving-start : (setting : Setting) (b : Outside) → Serving setting b b new_reader None
 Serving-start setting b = record {
   going = inl refl;
   ended = λ e. absurd (cc);
