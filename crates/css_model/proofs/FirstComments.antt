@@ -1,14 +1,13 @@
 -- The first piece where a text begins with a comment, `<!--`, `#`, `@` or a character alone.
 use Rattle.std.proofs.Common.{◌≡◌, ◌∙◌, sym, ap, refl, subst, ℕ, suc, ◌+◌, ◌≤◌, ◌==◌, [], ◌∷◌, ◌++◌, length, drop, Bool, true, false, ◌&&◌, arith, append_assoc, length-append, eqb-true, inl, inr}
 use Rattle.std.proofs.lemmas.Bool.{cases_Bool, false≢true}
-use Rattle.std.proofs.Math.Bool.{and-true}
 use Rattle.std.proofs.Math.Seq.{drop-append_seam}
 use Rattle.std.specs.Prelude.{codes}
-use Rattle.css_model.specs.Classes.{Text, begins}
+use Rattle.css_model.specs.Classes.{Text, has_front}
 use Rattle.css_model.specs.Spellings.{IsEnd}
 use Rattle.css_model.specs.TokenList.{piece_text, has_comment_end}
-use Rattle.css_model.specs.Pieces.{has_front, comment_inside, comment_end, consume_comment}
-use Rattle.css_model.proofs.Tests.{and-left, and-right, or-false-left, or-false-right, pick-true, pick-false}
+use Rattle.css_model.specs.inner.Pieces.{comment_inside, comment_end, consume_comment}
+use Rattle.css_model.proofs.Tests.{or-none, and-left, and-right, or-false-left, or-false-right, pick-true, pick-false}
 use Rattle.css_model.proofs.Laws.{IsFirst}
 use Rattle.css_model.proofs.Longest.{comments, Bound, longest}
 use Rattle.css_model.proofs.FirstStrings.{bounds-47}
@@ -33,8 +32,8 @@ record Inside (cs : Text) : Type 0 where
   no_end : has_comment_end (comment_inside cs) ≡ false
   ends : IsEnd (codes "*/") (comment_end (drop (length (comment_inside cs)) cs)) rest
 
-end-front : (c : ℕ) (xs : Text) → (c == 42) && begins (λ d. d == 47) xs ≡ false → has_comment_end xs ≡ false → has_comment_end (c ∷ xs) ≡ false
-end-front c xs f h = rw f h
+end-front : (c : ℕ) (xs : Text) → has_front (codes "*/") (c ∷ xs) ≡ false → has_comment_end xs ≡ false → has_comment_end (c ∷ xs) ≡ false
+end-front c xs f h = or-none (has_front (codes "*/") (c ∷ xs)) (has_comment_end xs) f h
 
 -- a character that begins no end, before an inside
 inside-cons : (c : ℕ) (cs : Text) → has_front (codes "*/") (c ∷ cs) ≡ false → has_comment_end (comment_inside cs) ≡ false → has_comment_end (c ∷ comment_inside cs) ≡ false
@@ -43,12 +42,12 @@ inside-cons c (d ∷ cs) f h = elim (cases_Bool (has_front (codes "*/") (d ∷ c
   | inl t ↦ ap (λ xs. has_comment_end (c ∷ xs)) (pick-true (has_front (codes "*/") (d ∷ cs)) [] (d ∷ comment_inside cs) t) ∙ end-front c [] (and-zero (c == 42)) refl
   | inr n ↦
       let is : comment_inside (d ∷ cs) ≡ d ∷ comment_inside cs = pick-false (has_front (codes "*/") (d ∷ cs)) [] (d ∷ comment_inside cs) n in
-      ap (λ xs. has_comment_end (c ∷ xs)) is ∙ end-front c (d ∷ comment_inside cs) (ap (λ b. (c == 42) && b) (sym (and-true (d == 47))) ∙ f) (sym (ap has_comment_end is) ∙ h)
+      ap (λ xs. has_comment_end (c ∷ xs)) is ∙ end-front c (d ∷ comment_inside cs) f (sym (ap has_comment_end is) ∙ h)
 ]
 
 -- no end begins at a character of an inside
-no-front : (c : ℕ) (inside end rest : Text) → (c == 42) && begins (λ d. d == 47) inside ≡ false → IsEnd (codes "*/") end rest → has_front (codes "*/") (c ∷ (inside ++ (end ++ rest))) ≡ false
-no-front c (d ∷ inside) end rest f e = ap (λ b. (c == 42) && b) (and-true (d == 47)) ∙ f
+no-front : (c : ℕ) (inside end rest : Text) → has_front (codes "*/") (c ∷ inside) ≡ false → IsEnd (codes "*/") end rest → has_front (codes "*/") (c ∷ (inside ++ (end ++ rest))) ≡ false
+no-front c (d ∷ inside) end rest f e = f
 no-front c [] end rest f (inl e) = ap (λ xs. has_front (codes "*/") (c ∷ (xs ++ rest))) e ∙ and-zero (c == 42)
 no-front c [] end rest f (inr e) = ap (λ xs. has_front (codes "*/") (c ∷ (xs ++ rest))) e.0 ∙ (ap (λ xs. has_front (codes "*/") (c ∷ xs)) e.1 ∙ and-zero (c == 42))
 
@@ -57,8 +56,8 @@ inside-is : (inside end rest : Text) → has_comment_end inside ≡ false → Is
 inside-is [] end rest h (inl e) = ap (λ xs. comment_inside (xs ++ rest)) e
 inside-is [] end rest h (inr e) = ap (λ xs. comment_inside (xs ++ rest)) e.0 ∙ ap comment_inside e.1
 inside-is (c ∷ inside) end rest h e =
-    let here : (c == 42) && begins (λ d. d == 47) inside ≡ false = or-false-left ((c == 42) && begins (λ d. d == 47) inside) (has_comment_end inside) h in
-    let more : comment_inside (inside ++ (end ++ rest)) ≡ inside = inside-is inside end rest (or-false-right ((c == 42) && begins (λ d. d == 47) inside) (has_comment_end inside) h) e in
+    let here : has_front (codes "*/") (c ∷ inside) ≡ false = or-false-left (has_front (codes "*/") (c ∷ inside)) (has_comment_end inside) h in
+    let more : comment_inside (inside ++ (end ++ rest)) ≡ inside = inside-is inside end rest (or-false-right (has_front (codes "*/") (c ∷ inside)) (has_comment_end inside) h) e in
     pick-false (has_front (codes "*/") (c ∷ (inside ++ (end ++ rest)))) [] (c ∷ comment_inside (inside ++ (end ++ rest))) (no-front c inside end rest here e)
     ∙ ap (λ xs. c ∷ xs) more
 

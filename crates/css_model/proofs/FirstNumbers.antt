@@ -2,9 +2,9 @@
 use Rattle.std.proofs.Common.{◌≡◌, ◌∙◌, sym, ap, refl, ℕ, ◌==◌, [], ◌∷◌, ◌++◌, length, drop, Bool, true, false, ◌&&◌, not, append_assoc, eqb-true, inl, inr}
 use Rattle.std.proofs.lemmas.Bool.{cases_Bool, true≢false, false≢true, cond_both}
 use Rattle.std.specs.List.{list_all}
-use Rattle.css_model.specs.Classes.{Text, full_stop, is_digit, is_sign, is_e, begins, is_empty}
-use Rattle.css_model.specs.Numerals.{Numeral, fraction_text, exponent_text, numeral_text, is_at_most_one, is_exponent, IsNumeral, begins_signed_digit, begins_exponent}
-use Rattle.css_model.specs.Fronts.{one_in, run_in, begins_unsigned, would_start_number, fraction_in, with_exponent, numeral_in}
+use Rattle.css_model.specs.Classes.{Text, full_stop, is_digit, is_sign, is_e, begins, is_empty, is_at_most_one}
+use Rattle.css_model.specs.Numerals.{Numeral, fraction_text, exponent_text, numeral_text, is_exponent, IsNumeral, begins_signed_digit, begins_exponent}
+use Rattle.css_model.specs.inner.Fronts.{one_in, run_in, begins_unsigned, would_start_number, fraction_in, with_exponent, numeral_in}
 use Rattle.css_model.proofs.Tests.{and-left, and-right, both, or-cases, not-false, pick-true, pick-false}
 use Rattle.css_model.proofs.Runs.{Runs, runs}
 use Rattle.css_model.proofs.PartLemmas.{one_in-joins}
@@ -60,8 +60,8 @@ exponent-in s w f (c ∷ cs) =
     let left : Text = drop (length es) cs in
     let digits : Text = run_in is_digit left in
     let r : Runs is_digit left = runs is_digit left in
-    let long : Numeral = record { sign = s; whole = w; fraction = f; mark = c ∷ []; exponent_sign = es; exponent = digits } in
-    let short : Numeral = record { sign = s; whole = w; fraction = f; mark = []; exponent_sign = []; exponent = [] } in
+    let long : Numeral = record { sign = s; integer = w; fraction = f; mark = c ∷ []; exponent_sign = es; exponent = digits } in
+    let short : Numeral = record { sign = s; integer = w; fraction = f; mark = []; exponent_sign = []; exponent = [] } in
     cond_both (begins_exponent (c ∷ cs)) long short (λ n. Exponent n (c ∷ cs))
     (λ t.
     let some : is_empty digits ≡ false = run-some is_digit left (behind-exponent_sign cs (and-right (is_e c) (begins_signed_digit cs) t)) in
@@ -75,14 +75,14 @@ exponent-in s w f (c ∷ cs) =
     (λ n. record { rest = c ∷ cs; joins = refl; is = refl; ends = n })
 
 -- the exponent leaves the other parts
-pub with_exponent-parts : (s w f cs : Text) → (P : Text → Text → Text → Type 0) → P s w f → P (with_exponent s w f cs).sign (with_exponent s w f cs).whole (with_exponent s w f cs).fraction
+pub with_exponent-parts : (s w f cs : Text) → (P : Text → Text → Text → Type 0) → P s w f → P (with_exponent s w f cs).sign (with_exponent s w f cs).integer (with_exponent s w f cs).fraction
 with_exponent-parts s w f [] P h = h
 with_exponent-parts s w f (c ∷ cs) P h =
     let es : Text = one_in is_sign cs in
     let digits : Text = run_in is_digit (drop (length es) cs) in
-    let long : Numeral = record { sign = s; whole = w; fraction = f; mark = c ∷ []; exponent_sign = es; exponent = digits } in
-    let short : Numeral = record { sign = s; whole = w; fraction = f; mark = []; exponent_sign = []; exponent = [] } in
-    cond_both (begins_exponent (c ∷ cs)) long short (λ n. P n.sign n.whole n.fraction) (λ t. h) (λ n. h)
+    let long : Numeral = record { sign = s; integer = w; fraction = f; mark = c ∷ []; exponent_sign = es; exponent = digits } in
+    let short : Numeral = record { sign = s; integer = w; fraction = f; mark = []; exponent_sign = []; exponent = [] } in
+    cond_both (begins_exponent (c ∷ cs)) long short (λ n. P n.sign n.integer n.fraction) (λ t. h) (λ n. h)
 
 -- ---- the fraction
 
@@ -113,11 +113,11 @@ some-digit (c ∷ cs) h =
       | inr p ↦ ap is_empty (pick-true (c == full_stop) (run_in is_digit cs) [] (and-left (c == full_stop) (begins is_digit cs) p)) ∙ run-some is_digit cs (and-right (c == full_stop) (begins is_digit cs) p)
     ])
 
-pub numeral-unjoined : (w : Numeral) (rest : Text) → numeral_text w ++ rest ≡ w.sign ++ (w.whole ++ (fraction_text w.fraction ++ (exponent_text w ++ rest)))
+pub numeral-unjoined : (w : Numeral) (rest : Text) → numeral_text w ++ rest ≡ w.sign ++ (w.integer ++ (fraction_text w.fraction ++ (exponent_text w ++ rest)))
 numeral-unjoined w rest =
-    append_assoc w.sign (w.whole ++ (fraction_text w.fraction ++ exponent_text w)) rest
-    ∙ ap (λ xs. w.sign ++ xs) (append_assoc w.whole (fraction_text w.fraction ++ exponent_text w) rest
-    ∙ ap (λ xs. w.whole ++ xs) (append_assoc (fraction_text w.fraction) (exponent_text w) rest))
+    append_assoc w.sign (w.integer ++ (fraction_text w.fraction ++ exponent_text w)) rest
+    ∙ ap (λ xs. w.sign ++ xs) (append_assoc w.integer (fraction_text w.fraction ++ exponent_text w) rest
+    ∙ ap (λ xs. w.integer ++ xs) (append_assoc (fraction_text w.fraction) (exponent_text w) rest))
 
 -- the number in front of a text, and what stands behind it
 pub record Numbers (w : Numeral) (cs : Text) : Type 0 where
@@ -130,7 +130,7 @@ pub record Numbers (w : Numeral) (cs : Text) : Type 0 where
 record Before (cs behind s w f : Text) : Type 0 where
   joins : s ++ (w ++ (fraction_text f ++ behind)) ≡ cs
   sign : is_at_most_one is_sign s ≡ true
-  whole : list_all is_digit w ≡ true
+  integer : list_all is_digit w ≡ true
   fraction : list_all is_digit f ≡ true
   some : is_empty w && is_empty f ≡ false
 
@@ -145,13 +145,13 @@ numbers-in cs h =
     let z : Text = drop (length (fraction_text f)) v in
     let r : Runs is_digit u = runs is_digit u in
     let e : Exponent (with_exponent s w f z) z = exponent-in s w f z in
-    let whole : s ++ (w ++ (fraction_text f ++ z)) ≡ cs = ap (λ xs. s ++ (w ++ xs)) (fraction-joins v) ∙ (ap (λ xs. s ++ xs) r.joins ∙ one_in-joins is_sign cs) in
-    let b : Before cs z (with_exponent s w f z).sign (with_exponent s w f z).whole (with_exponent s w f z).fraction =
-    with_exponent-parts s w f z (λ s' w' f'. Before cs z s' w' f') (record { joins = whole; sign = one_in-most is_sign cs; whole = r.passes; fraction = fraction-pass v; some = some-digit u (behind-sign cs h) }) in
+    let integer : s ++ (w ++ (fraction_text f ++ z)) ≡ cs = ap (λ xs. s ++ (w ++ xs)) (fraction-joins v) ∙ (ap (λ xs. s ++ xs) r.joins ∙ one_in-joins is_sign cs) in
+    let b : Before cs z (with_exponent s w f z).sign (with_exponent s w f z).integer (with_exponent s w f z).fraction =
+    with_exponent-parts s w f z (λ s' w' f'. Before cs z s' w' f') (record { joins = integer; sign = one_in-most is_sign cs; integer = r.passes; fraction = fraction-pass v; some = some-digit u (behind-sign cs h) }) in
     record {
       rest = e.rest;
       joins = numeral-unjoined (with_exponent s w f z) e.rest
-          ∙ (ap (λ xs. (with_exponent s w f z).sign ++ ((with_exponent s w f z).whole ++ (fraction_text (with_exponent s w f z).fraction ++ xs))) e.joins ∙ b.joins);
-      is = record { sign = b.sign; whole = b.whole; fraction = b.fraction; some_digit = b.some; exponent = e.is };
+          ∙ (ap (λ xs. (with_exponent s w f z).sign ++ ((with_exponent s w f z).integer ++ (fraction_text (with_exponent s w f z).fraction ++ xs))) e.joins ∙ b.joins);
+      is = record { sign = b.sign; integer = b.integer; fraction = b.fraction; some_digit = b.some; exponent = e.is };
       ends = e.ends;
     }

@@ -4,7 +4,7 @@ use Rattle.std.proofs.Math.Seq.{drop-append_seam}
 use Rattle.css_model.specs.Classes.{Text}
 use Rattle.css_model.specs.Preprocessing.{preprocessed}
 use Rattle.css_model.specs.TokenList.{Piece, piece_text, pieces_text, IsPiece, ArePieces, IsTokenList}
-use Rattle.css_model.specs.Pieces.{first_piece, pieces_after, pieces, tokens}
+use Rattle.css_model.specs.inner.Pieces.{first_piece, pieces_after, pieces, tokens}
 
 -- a piece of the definition stands in front of a text, and no longer one does
 pub record IsFirst (p : Piece) (cs : Text) : Type 0 where

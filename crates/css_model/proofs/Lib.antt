@@ -1,4 +1,5 @@
 pub mod Tests
+pub mod Singles
 pub mod Runs
 pub mod PartLemmas
 pub mod Laws

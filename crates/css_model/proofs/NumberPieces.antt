@@ -2,15 +2,16 @@
 use Rattle.std.proofs.Common.{◌≡◌, ◌∙◌, sym, ap, refl, subst, ℕ, ◌+◌, ◌≤◌, ◌==◌, List, [], ◌∷◌, ◌++◌, length, drop, Bool, true, false, ◌&&◌, arith, append_assoc, length-append, eqb-true, inl, inr}
 use Rattle.std.proofs.lemmas.Bool.{cases_Bool, true≢false, false≢true, cond_both}
 use Rattle.std.proofs.Math.Seq.{drop-append_seam}
-use Rattle.std.specs.Prelude.{codes, flat_map, if◌then◌else◌}
-use Rattle.css_model.specs.Classes.{Text, is_digit, is_sign, is_e, begins, is_empty}
-use Rattle.css_model.specs.Tokens.{number, percentage, dimension}
-use Rattle.css_model.specs.Parts.{Part, parts_text, meaning, in_name}
+use Rattle.std.specs.Prelude.{codes, if◌then◌else◌}
+use Rattle.css_model.specs.Classes.{Text, is_digit, is_sign, is_e, begins, is_empty, has_front}
+use Rattle.css_model.specs.declared.token.TokenType.TheVariants.{Number, Percentage, Dimension}
+use Rattle.css_model.specs.declared.place.Place.TheVariants.{InName}
+use Rattle.css_model.specs.Parts.{Part, parts_text, meanings, would_start_ident}
 use Rattle.css_model.specs.Numerals.{Numeral, fraction_text, numeral_text, IsNumeral, begins_signed_digit, begins_exponent, number_of}
-use Rattle.css_model.specs.Spellings.{would_start_ident, IsName}
+use Rattle.css_model.specs.Spellings.{IsName}
 use Rattle.css_model.specs.TokenList.{Piece, token, piece_text, IsPiece, IsTokenList}
-use Rattle.css_model.specs.Fronts.{parts_in, behind_parts, would_start_number, numeral_in}
-use Rattle.css_model.specs.Pieces.{has_front, tokens}
+use Rattle.css_model.specs.inner.Fronts.{parts_in, after_parts, would_start_number, numeral_in}
+use Rattle.css_model.specs.inner.Pieces.{tokens}
 use Rattle.css_model.proofs.Tests.{and-left, and-right, both, or-left, or-cases}
 use Rattle.css_model.proofs.PartLemmas.{parts_in-stop, Fronts, fronts}
 use Rattle.css_model.proofs.Demands.{begins_name, name-demands}
@@ -110,12 +111,12 @@ some-of (x ∷ a) b h = omega arith
 
 pub numeral-some : (w : Numeral) → IsNumeral w → 1 ≤ length (numeral_text w)
 numeral-some w h =
-    let l : 1 ≤ length w.whole + length w.fraction = some-of w.whole w.fraction h.some_digit in
+    let l : 1 ≤ length w.integer + length w.fraction = some-of w.integer w.fraction h.some_digit in
     let f : length w.fraction ≤ length (fraction_text w.fraction) = fraction-length w.fraction in
     rw (numeral-length w) (omega (arith, l, f))
 
 pub percent-no_name : (cs behind : Text) → cs ≡ codes "%" ++ behind → begins_name cs ≡ false
-percent-no_name cs behind e = ap begins_name e ∙ ap would_start_ident (parts_in-stop in_name 37 behind refl)
+percent-no_name cs behind e = ap begins_name e ∙ ap would_start_ident (parts_in-stop InName 37 behind refl)
 
 name-there : (cs unit tail behind : Text) → cs ≡ tail ++ behind → IsName unit true tail behind → begins_name cs ≡ true
 name-there cs unit tail behind e i = ap begins_name e ∙ name-demands unit tail behind i
@@ -144,17 +145,17 @@ pub numbers-first : NumbersAreFirst
 numbers-first c cs o =
     let w : Numeral = numeral_in (c ∷ cs) in
     let left : Text = behind_numeral (c ∷ cs) in
-    let unit : List Part = parts_in in_name left in
+    let unit : List Part = parts_in InName left in
     let n : Numbers (numeral_in (c ∷ cs)) (c ∷ cs) = numbers-in (c ∷ cs) o.number in
-    let f : Fronts in_name left = fronts in_name left in
+    let f : Fronts InName left = fronts InName left in
     let there : behind_numeral (c ∷ cs) ≡ n.rest = behind-is (numeral_in (c ∷ cs)) n.rest (c ∷ cs) n.joins refl in
-    let as_dimension : Piece = token (dimension (number_of w) (flat_map meaning unit)) (numeral_text w ++ parts_text unit) in
-    let as_percentage : Piece = token (percentage (number_of w)) (numeral_text w ++ codes "%") in
-    let as_number : Piece = token (number (number_of w)) (numeral_text w ++ []) in
-    let exponent : is_empty w.exponent && begins_exponent (parts_text unit ++ behind_parts unit left) ≡ false = ap (λ xs. is_empty w.exponent && begins_exponent xs) (f.joins ∙ there) ∙ n.ends in
+    let as_dimension : Piece = token (Dimension (number_of w) (meanings InName unit)) (numeral_text w ++ parts_text unit) in
+    let as_percentage : Piece = token (Percentage (number_of w)) (numeral_text w ++ codes "%") in
+    let as_number : Piece = token (Number (number_of w)) (numeral_text w ++ []) in
+    let exponent : is_empty w.exponent && begins_exponent (parts_text unit ++ after_parts unit left) ≡ false = ap (λ xs. is_empty w.exponent && begins_exponent xs) (f.joins ∙ there) ∙ n.ends in
     cond_both (would_start_ident unit) as_dimension (if has_front (codes "%") left then as_percentage else as_number) (λ p. IsFirst p (c ∷ cs))
-    (λ t. number-made c cs (parts_text unit) (behind_parts unit left) as_dimension o refl f.joins
-    (record { numeral = w; tail = parts_text unit; spelling = refl; is_numeral = n.is; value = refl; is_unit = record { parts = unit; spelling = refl; are_parts = f.are; means = refl; identifier = t }; longest_number = no-exponent-front (is_empty w.exponent) (parts_text unit) (behind_parts unit left) exponent })
+    (λ t. number-made c cs (parts_text unit) (after_parts unit left) as_dimension o refl f.joins
+    (record { numeral = w; tail = parts_text unit; spelling = refl; is_numeral = n.is; value = refl; is_unit = record { parts = unit; spelling = refl; are_parts = f.are; means = refl; identifier = t }; longest_number = no-exponent-front (is_empty w.exponent) (parts_text unit) (after_parts unit left) exponent })
     (λ behind e. absurd (true≢false (sym t ∙ percent-no_name left behind e)))
     (λ u tail behind e i. ident-within u tail behind left (sym e) i))
     (λ m. cond_both (has_front (codes "%") left) as_percentage as_number (λ p. IsFirst p (c ∷ cs))

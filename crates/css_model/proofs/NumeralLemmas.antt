@@ -2,9 +2,9 @@
 use Rattle.std.proofs.Common.{◌≡◌, ◌∙◌, ap, refl, subst, ℕ, ◌==◌, [], ◌∷◌, ◌++◌, true, false, ◌&&◌, append_assoc, eqb-true, inl, inr}
 use Rattle.std.proofs.lemmas.Bool.{cases_Bool, true≢false, false≢true}
 use Rattle.std.specs.List.{list_all}
-use Rattle.css_model.specs.Classes.{Text, full_stop, is_digit, is_sign, begins, is_empty}
-use Rattle.css_model.specs.Numerals.{Numeral, fraction_text, exponent_text, numeral_text, is_at_most_one, IsNumeral}
-use Rattle.css_model.specs.Fronts.{begins_unsigned, would_start_number}
+use Rattle.css_model.specs.Classes.{Text, full_stop, is_digit, is_sign, begins, is_empty, is_at_most_one}
+use Rattle.css_model.specs.Numerals.{Numeral, fraction_text, exponent_text, numeral_text, IsNumeral}
+use Rattle.css_model.specs.inner.Fronts.{begins_unsigned, would_start_number}
 use Rattle.css_model.proofs.Tests.{and-left, and-right, or-left, or-cases, pick-true, pick-false}
 
 -- a sign is no digit
@@ -22,7 +22,7 @@ pub record Unsigned (cs : Text) : Type 0 where
   pub number : begins_unsigned cs ≡ true
   pub no_sign : begins is_sign cs ≡ false
 
-pub unsigned : (whole fraction behind : Text) → list_all is_digit whole ≡ true → list_all is_digit fraction ≡ true → is_empty whole && is_empty fraction ≡ false → Unsigned (whole ++ (fraction_text fraction ++ behind))
+pub unsigned : (integer fraction behind : Text) → list_all is_digit integer ≡ true → list_all is_digit fraction ≡ true → is_empty integer && is_empty fraction ≡ false → Unsigned (integer ++ (fraction_text fraction ++ behind))
 unsigned (d ∷ ds) fraction behind w f s =
     let here : is_digit d ≡ true = and-left (is_digit d) (list_all is_digit ds) w in
     record { number = or-left (is_digit d) ((d == full_stop) && begins is_digit (ds ++ (fraction_text fraction ++ behind))) here; no_sign = digit-no_sign d here }
@@ -41,8 +41,8 @@ would_start_number-signed (c ∷ d ∷ ds) cs s u = absurd (false≢true (and-ri
 -- a number of the definition begins as numbers do
 pub numeral-begins : (w : Numeral) (rest : Text) → IsNumeral w → would_start_number (numeral_text w ++ rest) ≡ true
 numeral-begins w rest h =
-    let unjoined : numeral_text w ++ rest ≡ w.sign ++ (w.whole ++ (fraction_text w.fraction ++ (exponent_text w ++ rest))) =
-    append_assoc w.sign (w.whole ++ (fraction_text w.fraction ++ exponent_text w)) rest
-    ∙ ap (λ xs. w.sign ++ xs) (append_assoc w.whole (fraction_text w.fraction ++ exponent_text w) rest
-    ∙ ap (λ xs. w.whole ++ xs) (append_assoc (fraction_text w.fraction) (exponent_text w) rest)) in
-    ap would_start_number unjoined ∙ would_start_number-signed w.sign (w.whole ++ (fraction_text w.fraction ++ (exponent_text w ++ rest))) h.sign (unsigned w.whole w.fraction (exponent_text w ++ rest) h.whole h.fraction h.some_digit)
+    let unjoined : numeral_text w ++ rest ≡ w.sign ++ (w.integer ++ (fraction_text w.fraction ++ (exponent_text w ++ rest))) =
+    append_assoc w.sign (w.integer ++ (fraction_text w.fraction ++ exponent_text w)) rest
+    ∙ ap (λ xs. w.sign ++ xs) (append_assoc w.integer (fraction_text w.fraction ++ exponent_text w) rest
+    ∙ ap (λ xs. w.integer ++ xs) (append_assoc (fraction_text w.fraction) (exponent_text w) rest)) in
+    ap would_start_number unjoined ∙ would_start_number-signed w.sign (w.integer ++ (fraction_text w.fraction ++ (exponent_text w ++ rest))) h.sign (unsigned w.integer w.fraction (exponent_text w ++ rest) h.integer h.fraction h.some_digit)

@@ -2,11 +2,13 @@
 use Rattle.std.proofs.Common.{◌≡◌, ◌∙◌, sym, ap, refl, subst, pred, ◌+◌, ◌≤◌, List, [], ◌∷◌, ◌++◌, length, drop, arith, length-append}
 use Rattle.std.specs.Prelude.{codes}
 use Rattle.css_model.specs.Classes.{Text}
-use Rattle.css_model.specs.Tokens.{round, square, curly, Kind, ident, function, at_keyword, hash, string, bad_string, url, bad_url, delim, number, percentage, dimension, whitespace, cdo, cdc, colon, semicolon, comma, opening, closing, Token}
+use Rattle.css_model.specs.declared.token.Token.{Token}
+use Rattle.css_model.specs.declared.token.TokenType.{TokenType}
+use Rattle.css_model.specs.declared.token.TokenType.TheVariants.{Ident, Function, AtKeyword, Hash, String, BadString, Url, BadUrl, Delim, Number, Percentage, Dimension, Whitespace, Cdo, Cdc, Colon, Semicolon, Comma, Opening, Closing}
 use Rattle.css_model.specs.Numerals.{Numeral, numeral_text, IsNumeral}
 use Rattle.css_model.specs.Spellings.{Spells}
 use Rattle.css_model.specs.TokenList.{Piece, comment, token, piece_text, pieces_text, IsPiece, ArePieces, tokens_from, IsTokenList}
-use Rattle.css_model.specs.Pieces.{pieces, tokens}
+use Rattle.css_model.specs.inner.Pieces.{pieces, tokens}
 use Rattle.css_model.proofs.Laws.{pieces-nil, pieces-cons, behind-first}
 use Rattle.css_model.proofs.NumberPieces.{numeral-some}
 use Rattle.css_model.proofs.NumberSizes.{some-length}
@@ -28,35 +30,31 @@ number-some w tail s h e =
 two-some : (s : Text) → 2 ≤ length s → 1 ≤ length s
 two-some s l = omega (arith, l)
 
-token-some : (kind : Kind) (s rest : Text) → Spells kind s rest → 1 ≤ length s
-token-some (ident name) s rest h = name-some name s rest h
-token-some (function name) s rest h = two-some s (open-long name h.head s (codes "(" ++ rest) h.is_name h.spelling)
-token-some (at_keyword name) s rest h = written-some s (codes "@" ++ h.0) h.1 (omega arith)
-token-some (hash name is_id) s rest h = written-some s (codes "#" ++ h.0) h.1 (omega arith)
-token-some (string value) s rest h = written-some s _ h.spelling (omega arith)
-token-some bad_string s rest h = written-some s _ h.spelling (omega arith)
-token-some (url value) s rest h = two-some s (head-long s h.head _ _ h.is_head h.spelling)
-token-some bad_url s rest h = two-some s (head-long s h.head _ _ h.is_head h.spelling)
-token-some (delim c) s rest h = written-some s (c ∷ []) h.spelling (omega arith)
-token-some (number n) s rest h = number-some h.numeral [] s h.is_numeral h.spelling
-token-some (percentage n) s rest h = number-some h.numeral (codes "%") s h.is_numeral h.spelling
-token-some (dimension n unit) s rest h = number-some h.numeral h.tail s h.is_numeral h.spelling
-token-some whitespace s rest h = some-length s h.1
-token-some cdo s rest h = written-some s (codes "<!--") h (omega arith)
-token-some cdc s rest h = written-some s (codes "-->") h (omega arith)
-token-some colon s rest h = written-some s (codes ":") h (omega arith)
-token-some semicolon s rest h = written-some s (codes ";") h (omega arith)
-token-some comma s rest h = written-some s (codes ",") h (omega arith)
-token-some (opening round) s rest h = written-some s (codes "(") h (omega arith)
-token-some (opening square) s rest h = written-some s (codes "[") h (omega arith)
-token-some (opening curly) s rest h = written-some s (codes "{") h (omega arith)
-token-some (closing round) s rest h = written-some s (codes ")") h (omega arith)
-token-some (closing square) s rest h = written-some s (codes "]") h (omega arith)
-token-some (closing curly) s rest h = written-some s (codes "}") h (omega arith)
+token-some : (token_type : TokenType) (s rest : Text) → Spells token_type s rest → 1 ≤ length s
+token-some (Ident name) s rest h = name-some name s rest h
+token-some (Function name) s rest h = two-some s (open-long name h.head s (codes "(" ++ rest) h.is_name h.spelling)
+token-some (AtKeyword name) s rest h = written-some s (codes "@" ++ h.0) h.1 (omega arith)
+token-some (Hash name is_id) s rest h = written-some s (codes "#" ++ h.0) h.1 (omega arith)
+token-some (String value) s rest h = written-some s _ h.spelling (omega arith)
+token-some BadString s rest h = written-some s _ h.spelling (omega arith)
+token-some (Url value) s rest h = two-some s (head-long s h.head _ _ h.is_head h.spelling)
+token-some BadUrl s rest h = two-some s (head-long s h.head _ _ h.is_head h.spelling)
+token-some (Delim c) s rest h = written-some s (c ∷ []) h.spelling (omega arith)
+token-some (Number n) s rest h = number-some h.numeral [] s h.is_numeral h.spelling
+token-some (Percentage n) s rest h = number-some h.numeral (codes "%") s h.is_numeral h.spelling
+token-some (Dimension n unit) s rest h = number-some h.numeral h.tail s h.is_numeral h.spelling
+token-some Whitespace s rest h = some-length s h.1
+token-some Cdo s rest h = written-some s (codes "<!--") h (omega arith)
+token-some Cdc s rest h = written-some s (codes "-->") h (omega arith)
+token-some Colon s rest h = written-some s (h.c ∷ []) h.spelling (omega arith)
+token-some Semicolon s rest h = written-some s (h.c ∷ []) h.spelling (omega arith)
+token-some Comma s rest h = written-some s (h.c ∷ []) h.spelling (omega arith)
+token-some (Opening b) s rest h = written-some s (h.c ∷ []) h.spelling (omega arith)
+token-some (Closing b) s rest h = written-some s (h.c ∷ []) h.spelling (omega arith)
 
 piece-some : (p : Piece) (rest : Text) → IsPiece p rest → 1 ≤ length (piece_text p)
 piece-some (comment s) rest h = written-some s (codes "/*" ++ (h.inside ++ h.end)) h.spelling (omega arith)
-piece-some (token kind s) rest h = token-some kind s rest h
+piece-some (token token_type s) rest h = token-some token_type s rest h
 
 -- ---- the pieces
 

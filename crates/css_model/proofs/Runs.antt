@@ -3,7 +3,7 @@ use Rattle.std.proofs.Common.{◌≡◌, ap, refl, ℕ, ◌≤◌, [], ◌∷◌
 use Rattle.std.proofs.lemmas.Bool.{cases_Bool}
 use Rattle.std.specs.List.{list_all}
 use Rattle.css_model.specs.Classes.{Text, begins}
-use Rattle.css_model.specs.Fronts.{run_in}
+use Rattle.css_model.specs.inner.Fronts.{run_in}
 use Rattle.css_model.proofs.Tests.{and-left, and-right}
 
 -- a run that ends is the run in front

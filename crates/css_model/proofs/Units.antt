@@ -3,11 +3,12 @@ use Rattle.std.proofs.Common.{◌≡◌, ◌⊎◌, ◌∙◌, sym, ap, refl, su
 use Rattle.std.proofs.lemmas.Bool.{cases_Bool, true≢false, false≢true, leb-true}
 use Rattle.std.specs.Prelude.{nat_le}
 use Rattle.std.specs.List.{list_all}
-use Rattle.css_model.specs.Classes.{Text, full_stop, hyphen, underscore, is_between, is_letter, is_digit, is_ident_start, is_sign, is_e, begins, is_empty}
-use Rattle.css_model.specs.Parts.{Part, itself, escaped, hex_escape, escaped_newline, escape_at_end, parts_text, in_name}
-use Rattle.css_model.specs.Spellings.{would_start_ident, follows_hyphen, IsName}
-use Rattle.css_model.specs.Numerals.{Numeral, fraction_text, exponent_text, numeral_text, is_at_most_one, is_exponent, IsNumeral, begins_signed_digit, begins_exponent}
-use Rattle.css_model.specs.Fronts.{one_in, run_in, parts_in, behind_parts, begins_unsigned, would_start_number, with_exponent, with_whole, numeral_in}
+use Rattle.css_model.specs.Classes.{Text, full_stop, hyphen, underscore, is_between, is_letter, is_digit, is_ident_start, is_sign, is_e, begins, is_empty, is_at_most_one}
+use Rattle.css_model.specs.declared.place.Place.TheVariants.{InName}
+use Rattle.css_model.specs.Parts.{Part, itself, escaped, hex_escape, escaped_newline, escape_at_end, parts_text, would_start_ident, follows_hyphen}
+use Rattle.css_model.specs.Spellings.{IsName}
+use Rattle.css_model.specs.Numerals.{Numeral, fraction_text, exponent_text, numeral_text, is_exponent, IsNumeral, begins_signed_digit, begins_exponent}
+use Rattle.css_model.specs.inner.Fronts.{one_in, run_in, parts_in, after_parts, begins_unsigned, would_start_number, with_exponent, with_integer, numeral_in}
 use Rattle.css_model.proofs.Tests.{and-left, and-right, or-left, or-cases, pick-true, pick-false}
 use Rattle.css_model.proofs.PartLemmas.{Fronts, fronts}
 use Rattle.css_model.proofs.Demands.{begins_name}
@@ -86,8 +87,8 @@ pub number-no_name : (cs : Text) → would_start_number cs ≡ true → begins_n
 number-no_name cs h = elim (cases_Bool (begins_name cs)) [
   | inr f ↦ f
   | inl t ↦
-      let f : Fronts in_name cs = fronts in_name cs in
-      absurd (true≢false (sym (ap would_start_number f.joins ∙ h) ∙ ident-no_number (parts_in in_name cs) (behind_parts (parts_in in_name cs) cs) t))
+      let f : Fronts InName cs = fronts InName cs in
+      absurd (true≢false (sym (ap would_start_number f.joins ∙ h) ∙ ident-no_number (parts_in InName cs) (after_parts (parts_in InName cs) cs) t))
 ]
 
 -- ---- a unit that would begin an exponent
@@ -109,8 +110,8 @@ exponent-grows s w f (c ∷ tl) rest t n =
     let cs : Text = tl ++ rest in
     let es : Text = one_in is_sign cs in
     let digits : Text = run_in is_digit (drop (length es) cs) in
-    let long : Numeral = record { sign = s; whole = w; fraction = f; mark = c ∷ []; exponent_sign = es; exponent = digits } in
-    let short : Numeral = record { sign = s; whole = w; fraction = f; mark = []; exponent_sign = []; exponent = [] } in
+    let long : Numeral = record { sign = s; integer = w; fraction = f; mark = c ∷ []; exponent_sign = es; exponent = digits } in
+    let short : Numeral = record { sign = s; integer = w; fraction = f; mark = []; exponent_sign = []; exponent = [] } in
     let signed : begins_signed_digit (tl ++ rest) ≡ true = and-right (is_e c) (begins_signed_digit (tl ++ rest)) t in
     let unsigned' : begins_signed_digit tl ≡ false = ap (λ b. b && begins_signed_digit tl) (sym (and-left (is_e c) (begins_signed_digit (tl ++ rest)) t)) ∙ n in
     let l : length tl ≤ length (one_in is_sign (tl ++ rest)) = short-tail tl rest signed unsigned' in
@@ -137,12 +138,12 @@ unit-split w unit tail rest h i n =
           let empty : is_empty w.exponent ≡ true = and-left (is_empty w.exponent) (begins_exponent (tail ++ rest)) t in
           let none : exponent_text w ≡ [] = exponent-empty w.mark w.exponent_sign w.exponent h.exponent empty in
           let no_exponent : begins_exponent tail ≡ false = ap (λ b. b && begins_exponent tail) (sym empty) ∙ n in
-          let is : numeral_in (numeral_text w ++ (tail ++ rest)) ≡ with_exponent w.sign w.whole w.fraction (tail ++ rest) =
+          let is : numeral_in (numeral_text w ++ (tail ++ rest)) ≡ with_exponent w.sign w.integer w.fraction (tail ++ rest) =
           behind-sign-is w (tail ++ rest) h
-          ∙ (ap (λ xs. with_whole w.sign (w.whole ++ (fraction_text w.fraction ++ (xs ++ (tail ++ rest))))) none
-          ∙ parts-known w.sign w.whole w.fraction (tail ++ rest) h.whole h.fraction other) in
-          let grows : length w.sign + (length w.whole + (length (fraction_text w.fraction) + length tail)) ≤ length (numeral_text (with_exponent w.sign w.whole w.fraction (tail ++ rest))) = exponent-grows w.sign w.whole w.fraction tail rest (and-right (is_empty w.exponent) (begins_exponent (tail ++ rest)) t) no_exponent in
-          let size : length (numeral_text w) ≡ length w.sign + (length w.whole + (length (fraction_text w.fraction) + length (exponent_text w))) = numeral-length w in
+          ∙ (ap (λ xs. with_integer w.sign (w.integer ++ (fraction_text w.fraction ++ (xs ++ (tail ++ rest))))) none
+          ∙ parts-known w.sign w.integer w.fraction (tail ++ rest) h.integer h.fraction other) in
+          let grows : length w.sign + (length w.integer + (length (fraction_text w.fraction) + length tail)) ≤ length (numeral_text (with_exponent w.sign w.integer w.fraction (tail ++ rest))) = exponent-grows w.sign w.integer w.fraction tail rest (and-right (is_empty w.exponent) (begins_exponent (tail ++ rest)) t) no_exponent in
+          let size : length (numeral_text w) ≡ length w.sign + (length w.integer + (length (fraction_text w.fraction) + length (exponent_text w))) = numeral-length w in
           let zero' : length (exponent_text w) ≡ 0 = ap length none in
           inr (subst (λ m. length (numeral_text w) + length tail ≤ length (numeral_text m)) (sym is) (omega (arith, grows, size, zero')))
     ]

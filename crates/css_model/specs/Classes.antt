@@ -1,11 +1,11 @@
--- The classes of characters (CSS Syntax 3, section 4.2).
+-- The classes of code points (CSS Syntax 3, section 4.2), and what is at the front of a text.
 use Rattle.std.specs.Prelude.{ℕ, ◌==◌, ◌||◌, ◌&&◌, nat_le, List, [], ◌∷◌, Bool, true, false}
 
--- a text: its characters, each the number of a code point
+-- a text: its code points, each as its number
 abbrev pub Text : Type 0
 Text = List ℕ
 
--- ---- characters with a name
+-- ---- code points with a name
 
 abbrev pub tab : ℕ
 tab = 9
@@ -19,6 +19,10 @@ space = 32
 abbrev pub double_quote : ℕ
 double_quote = 34
 
+-- `#`
+abbrev pub number_sign : ℕ
+number_sign = 35
+
 abbrev pub single_quote : ℕ
 single_quote = 39
 
@@ -31,19 +35,44 @@ close_round = 41
 abbrev pub plus : ℕ
 plus = 43
 
+abbrev pub comma : ℕ
+comma = 44
+
 abbrev pub hyphen : ℕ
 hyphen = 45
 
 abbrev pub full_stop : ℕ
 full_stop = 46
 
+abbrev pub colon : ℕ
+colon = 58
+
+abbrev pub semicolon : ℕ
+semicolon = 59
+
+-- `@`
+abbrev pub commercial_at : ℕ
+commercial_at = 64
+
+abbrev pub open_square : ℕ
+open_square = 91
+
 abbrev pub backslash : ℕ
 backslash = 92
+
+abbrev pub close_square : ℕ
+close_square = 93
 
 abbrev pub underscore : ℕ
 underscore = 95
 
--- U+FFFD, which stands where a character cannot
+abbrev pub open_curly : ℕ
+open_curly = 123
+
+abbrev pub close_curly : ℕ
+close_curly = 125
+
+-- U+FFFD, which replaces what is not a code point
 abbrev pub replacement : ℕ
 replacement = 65533
 
@@ -64,7 +93,7 @@ is_hex_digit c = is_digit c || (is_between 65 70 c || is_between 97 102 c)
 abbrev pub is_letter : ℕ → Bool
 is_letter c = is_between 65 90 c || is_between 97 122 c
 
--- an ident-start code point: a letter, what is not ASCII, or `_`
+-- an ident-start code point: a letter, a non-ASCII code point, or `_`
 abbrev pub is_ident_start : ℕ → Bool
 is_ident_start c = is_letter c || (nat_le 128 c || (c == underscore))
 
@@ -90,17 +119,31 @@ is_quote c = (c == double_quote) || (c == single_quote)
 abbrev pub is_sign : ℕ → Bool
 is_sign c = (c == plus) || (c == hyphen)
 
--- the letter before an exponent
+-- `E` or `e`, before an exponent
 abbrev pub is_e : ℕ → Bool
 is_e c = (c == 69) || (c == 101)
 
--- ---- the front of a text
+abbrev pub is_close_round : ℕ → Bool
+is_close_round c = c == close_round
 
--- the first character is of this class
-abbrev pub begins : (ℕ → Bool) → Text → Bool
-begins test [] = false
-begins test (c ∷ cs) = test c
+-- ---- texts
 
 abbrev pub is_empty : Text → Bool
 is_empty [] = true
 is_empty (c ∷ cs) = false
+
+-- at most one code point, which is of this class
+abbrev pub is_at_most_one : (ℕ → Bool) → Text → Bool
+is_at_most_one test [] = true
+is_at_most_one test (c ∷ cs) = test c && is_empty cs
+
+-- the first code point is of this class
+abbrev pub begins : (ℕ → Bool) → Text → Bool
+begins test [] = false
+begins test (c ∷ cs) = test c
+
+-- the second text begins with the first one
+abbrev pub has_front : Text → Text → Bool
+has_front [] cs = true
+has_front (d ∷ ds) [] = false
+has_front (d ∷ ds) (c ∷ cs) = (c == d) && has_front ds cs

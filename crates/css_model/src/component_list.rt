@@ -1,7 +1,7 @@
 ghost use Rattle.std.specs.Prelude.{◌≡◌, List};
 ghost use Rattle.css_model.specs.Components.{Components, IsComponents};
-ghost use Rattle.css_model.specs.Nesting.{nesting};
-ghost use Rattle.css_model.specs.Tokens.{Token};
+ghost use Rattle.css_model.specs.inner.Nesting.{nesting};
+ghost use Rattle.css_model.specs.declared.token.Token.{Token};
 
 /// Each list of tokens has components: the ones that `nesting` computes.
 pub fn some_components()

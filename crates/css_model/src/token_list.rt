@@ -1,7 +1,7 @@
 ghost use Rattle.css_model.specs.Classes.{Text};
-ghost use Rattle.css_model.specs.Pieces.{tokens};
+ghost use Rattle.css_model.specs.inner.Pieces.{tokens};
 ghost use Rattle.css_model.specs.TokenList.{IsTokenList};
-ghost use Rattle.css_model.specs.Tokens.{Token};
+ghost use Rattle.css_model.specs.declared.token.Token.{Token};
 ghost use Rattle.std.specs.Prelude.{◌≡◌, List};
 
 /// The tokens that are computed of a text are a token list of it by the definition, so each text

@@ -9,6 +9,6 @@ greatest = pos (2 ^ 30)
 abbrev pub least : ℤ
 least = negsuc (2 ^ 30 - 1)
 
--- a number of units, limited to what a length may be
-abbrev pub limited : ℤ → ℤ
-limited n = int_max least (int_min greatest n)
+-- a number of units, clamped to what a length may be
+abbrev pub clamped_units : ℤ → ℤ
+clamped_units n = int_max least (int_min greatest n)

@@ -13,6 +13,6 @@ least_millionths = negsuc (10 ^ 15 - 1)
 abbrev pub FitsFixed6 : ℤ → Type 0
 FitsFixed6 n = (least_millionths ≤ℤ n) × (n ≤ℤ greatest_millionths)
 
--- a number of millionths, limited to what a number may be
-abbrev pub limited_millionths : ℤ → ℤ
-limited_millionths n = int_max least_millionths (int_min greatest_millionths n)
+-- a number of millionths, clamped to what a number may be
+abbrev pub clamped_millionths : ℤ → ℤ
+clamped_millionths n = int_max least_millionths (int_min greatest_millionths n)

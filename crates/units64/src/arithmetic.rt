@@ -1,7 +1,7 @@
 ghost use Rattle.std.specs.Prelude.{◌≡◌, ◌+ℤ◌, ◌-ℤ◌, ◌*ℤ◌, ◌<ℤ◌, pos, int_div};
 ghost use Rattle.units64.specs.Conversions.{units_of};
-ghost use Rattle.units64.specs.Limits.{limited};
-ghost use Rattle.units64.specs.Millionths.{limited_millionths};
+ghost use Rattle.units64.specs.Limits.{clamped_units};
+ghost use Rattle.units64.specs.Millionths.{clamped_millionths};
 
 use super::fixed6::Fixed6;
 use super::units::Units;
@@ -14,14 +14,14 @@ const MILLIONTHS_PER_ONE: i64 = 1_000_000;
 
 /// The sum of two lengths.
 pub fn add(a: Units, b: Units) -> Units
-    ensures { result ≡ limited (a +ℤ b) }
+    ensures { result ≡ clamped_units (a +ℤ b) }
 {
     Units::new(sum(a.get(), b.get()))
 }
 
 /// The difference of two lengths: the first without the second.
 pub fn sub(a: Units, b: Units) -> Units
-    ensures { result ≡ limited (a -ℤ b) }
+    ensures { result ≡ clamped_units (a -ℤ b) }
 {
     Units::new(difference(a.get(), b.get()))
 }
@@ -29,14 +29,14 @@ pub fn sub(a: Units, b: Units) -> Units
 /// A number times `num / den`: the exact product, divided and cut towards zero.
 pub fn mul_ratio(a: Fixed6, num: i64, den: i64) -> Fixed6
     requires { pos 0 <ℤ den }
-    ensures { result ≡ limited_millionths (int_div (a *ℤ num) den) }
+    ensures { result ≡ clamped_millionths (int_div (a *ℤ num) den) }
 {
     Fixed6::new(quotient(product(a.get(), num), den))
 }
 
 /// A number of pixels as a length, cut towards zero.
 pub fn to_units(a: Fixed6) -> Units
-    ensures { result ≡ limited (units_of a) }
+    ensures { result ≡ clamped_units (units_of a) }
 {
     Units::new(a.get() * UNITS_PER_PIXEL / MILLIONTHS_PER_ONE)
 }

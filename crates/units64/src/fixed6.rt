@@ -1,5 +1,5 @@
 ghost use Rattle.std.specs.Prelude.{◌≡◌};
-ghost use Rattle.units64.specs.Millionths.{limited_millionths};
+ghost use Rattle.units64.specs.Millionths.{clamped_millionths};
 
 use std::marker::Model;
 
@@ -26,9 +26,9 @@ impl Model for Fixed6 {
 }
 
 impl Fixed6 {
-    /// So many millionths, limited to what a number may be.
+    /// So many millionths, clamped to what a number may be.
     pub fn new(n: i128) -> Fixed6
-        ensures { result ≡ limited_millionths n }
+        ensures { result ≡ clamped_millionths n }
     {
         let millionths = n.max(-MAX_MILLIONTHS).min(MAX_MILLIONTHS) as i64;
         Fixed6 { millionths }

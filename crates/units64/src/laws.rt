@@ -1,24 +1,24 @@
 ghost use Rattle.std.specs.Prelude.{◌≡◌, ℤ, pos, neg_ℤ, ◌+ℤ◌, ◌≤ℤ◌, ◌<ℤ◌};
 ghost use Rattle.units64.specs.Conversions.{units_of, millionths_of};
-ghost use Rattle.units64.specs.Limits.{limited, least, greatest};
-ghost use Rattle.units64.specs.Millionths.{limited_millionths, FitsFixed6};
+ghost use Rattle.units64.specs.Limits.{clamped_units, least, greatest};
+ghost use Rattle.units64.specs.Millionths.{clamped_millionths, FitsFixed6};
 
 /// Limits change nothing that fits.
 pub fn limits_keep_what_fits()
-    ensures units { (n : ℤ) → least ≤ℤ n → n ≤ℤ greatest → limited n ≡ n }
-    ensures millionths { (n : ℤ) → FitsFixed6 n → limited_millionths n ≡ n }
+    ensures units { (n : ℤ) → least ≤ℤ n → n ≤ℤ greatest → clamped_units n ≡ n }
+    ensures millionths { (n : ℤ) → FitsFixed6 n → clamped_millionths n ≡ n }
 {}
 
 /// To limit once more changes nothing.
 pub fn limits_are_idempotent()
-    ensures units { (n : ℤ) → limited (limited n) ≡ limited n }
-    ensures millionths { (n : ℤ) → limited_millionths (limited_millionths n) ≡ limited_millionths n }
+    ensures units { (n : ℤ) → clamped_units (clamped_units n) ≡ clamped_units n }
+    ensures millionths { (n : ℤ) → clamped_millionths (clamped_millionths n) ≡ clamped_millionths n }
 {}
 
 /// Limits keep the order of numbers.
 pub fn limits_keep_order()
-    ensures units { (m n : ℤ) → m ≤ℤ n → limited m ≤ℤ limited n }
-    ensures millionths { (m n : ℤ) → m ≤ℤ n → limited_millionths m ≤ℤ limited_millionths n }
+    ensures units { (m n : ℤ) → m ≤ℤ n → clamped_units m ≤ℤ clamped_units n }
+    ensures millionths { (m n : ℤ) → m ≤ℤ n → clamped_millionths m ≤ℤ clamped_millionths n }
 {}
 
 /// The millionths of a whole number of units give it back.

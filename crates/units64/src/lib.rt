@@ -1,6 +1,6 @@
 //! The numbers of the engine: lengths in units of 1/64 pixel, and numbers in millionths.
 //!
-//! Each result is exact in whole numbers without limit and only then limited to what its type
+//! Each result is exact in whole numbers without limit and only then clamped to what its type
 //! holds: `Units` to plus or minus 2^30, `Fixed6` to plus or minus 10^15 millionths. Each quotient
 //! is cut towards zero. A pixel is 64 units, so a unit is 15,625 millionths of a pixel, and
 //! comparisons lose nothing. No call takes memory, and none can fail.

@@ -1,5 +1,5 @@
 ghost use Rattle.std.specs.Prelude.{◌≡◌};
-ghost use Rattle.units64.specs.Limits.{limited};
+ghost use Rattle.units64.specs.Limits.{clamped_units};
 
 use std::marker::Model;
 
@@ -26,9 +26,9 @@ impl Model for Units {
 }
 
 impl Units {
-    /// So many units, limited to what a length may be.
+    /// So many units, clamped to what a length may be.
     pub fn new(n: i64) -> Units
-        ensures { result ≡ limited n }
+        ensures { result ≡ clamped_units n }
     {
         let units = n.max(-MAX_UNITS).min(MAX_UNITS) as i32;
         Units { units }

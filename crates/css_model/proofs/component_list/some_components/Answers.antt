@@ -1,5 +1,5 @@
 -- The computed components are some.
-use Rattle.css_model.specs.Nesting.{nesting}
+use Rattle.css_model.specs.inner.Nesting.{nesting}
 use Rattle.css_model.proofs.Nesting.{nesting-is}
 use Rattle.css_model.proofs.component_list.some_components.Goals as goal
 
