@@ -1,4 +1,4 @@
--- The computed components of tokens are components of them, and the only ones.
+-- The computed component values of tokens are component values of them.
 use Rattle.std.proofs.Common.{◌≡◌, ◌∙◌, sym, ap, refl, subst, inl, inr, List, [], ◌∷◌, ◌++◌, drop, Option, Some, None, true, false, append_assoc, append-nil}
 use Rattle.std.proofs.lemmas.Bool.{cases_Bool}
 use Rattle.std.specs.Option.{is_some}
@@ -8,7 +8,7 @@ use Rattle.css_model.specs.declared.token.Bracket.TheVariants.{Round, Square, Cu
 use Rattle.css_model.specs.declared.token.Token.{Token}
 use Rattle.css_model.specs.declared.token.TokenType.{TokenType}
 use Rattle.css_model.specs.declared.token.TokenType.TheVariants.{Function, Opening, Closing}
-use Rattle.css_model.specs.Components.{Component, preserved, simple_block, function_block, Components, no_components, component, tokens_of, all_tokens_of, close_tokens, opened_by, is_same_bracket, closes, IsClosed, IsNested, AreNested, IsComponents}
+use Rattle.css_model.specs.Components.{preserved, simple_block, function_block, Components, no_components, component, tokens_of, all_tokens_of, close_tokens, opened_by, is_same_bracket, closes, IsClosed, IsNested, AreNested, IsComponents}
 use Rattle.css_model.specs.inner.Nesting.{is_function, bracketed, innermost, Levels, levels, contents_of, alone, closed, enclosed, levels_of, nesting, followed, onto}
 
 -- ---- one token in front
@@ -32,11 +32,6 @@ unfolding levels_of
 levels-end heads = refl
 
 -- ---- brackets
-
-is_same_bracket-refl : (b : Bracket) → is_same_bracket b b ≡ true
-is_same_bracket-refl Round = refl
-is_same_bracket-refl Square = refl
-is_same_bracket-refl Curly = refl
 
 is_same_bracket-is : (b d : Bracket) → is_same_bracket b d ≡ true → d ≡ b
 is_same_bracket-is Round Round e = refl
@@ -106,29 +101,29 @@ OutsideNested (head ∷ heads) (level ∷ outside) =
 abbrev LevelsNested : List Token → Levels → Type 0
 LevelsNested heads (levels contents outside) = AreNested (innermost heads) contents (outside_tokens outside) × OutsideNested heads outside
 
-bracketed-call : (head : Token) (contents : Components) (close : Option Token) (name : Text) → head.token_type ≡ Function name → bracketed head contents close ≡ function_block head contents close
-bracketed-call head contents close name e =
+pub bracketed-function_block : (head : Token) (contents : Components) (close : Option Token) (name : Text) → head.token_type ≡ Function name → bracketed head contents close ≡ function_block head contents close
+bracketed-function_block head contents close name e =
     let is : is_function head.token_type ≡ true = rw e refl in
     rw is refl
 
-bracketed-block : (head : Token) (contents : Components) (close : Option Token) (b : Bracket) → head.token_type ≡ Opening b → bracketed head contents close ≡ simple_block head contents close
-bracketed-block head contents close b e =
+pub bracketed-simple_block : (head : Token) (contents : Components) (close : Option Token) (b : Bracket) → head.token_type ≡ Opening b → bracketed head contents close ≡ simple_block head contents close
+bracketed-simple_block head contents close b e =
     let is : is_function head.token_type ≡ false = rw e refl in
     rw is refl
 
-bracketed-kind : (around : Option Bracket) (head : Token) (contents : Components) (close : Option Token) (behind : List Token) (b : Bracket) (k : TokenType) → head.token_type ≡ k → opened_by k ≡ Some b
+bracketed-type : (around : Option Bracket) (head : Token) (contents : Components) (close : Option Token) (behind : List Token) (b : Bracket) (k : TokenType) → head.token_type ≡ k → opened_by k ≡ Some b
     → AreNested (Some b) contents (close_tokens close ++ behind) → IsClosed b close behind → IsNested around (bracketed head contents close) behind
-bracketed-kind around head contents close behind b (Function name) e o n c =
+bracketed-type around head contents close behind b (Function name) e o n c =
     let is : Round ≡ b = cc in
-    rw (bracketed-call head contents close name e) (name, e, subst (λ (d : Bracket). AreNested (Some d) contents (close_tokens close ++ behind)) (sym is) n, subst (λ (d : Bracket). IsClosed d close behind) (sym is) c)
-bracketed-kind around head contents close behind b (Opening d) e o n c =
+    rw (bracketed-function_block head contents close name e) (name, e, subst (λ (d : Bracket). AreNested (Some d) contents (close_tokens close ++ behind)) (sym is) n, subst (λ (d : Bracket). IsClosed d close behind) (sym is) c)
+bracketed-type around head contents close behind b (Opening d) e o n c =
     let is : d ≡ b = cc in
-    rw (bracketed-block head contents close d e) (b, e ∙ ap Opening is, n, c)
-bracketed-kind around head contents close behind b other e o n c = cc
+    rw (bracketed-simple_block head contents close d e) (b, e ∙ ap Opening is, n, c)
+bracketed-type around head contents close behind b other e o n c = cc
 
 bracketed-nested : (around : Option Bracket) (head : Token) (contents : Components) (close : Option Token) (behind : List Token) (b : Bracket) → opened_by head.token_type ≡ Some b
     → AreNested (Some b) contents (close_tokens close ++ behind) → IsClosed b close behind → IsNested around (bracketed head contents close) behind
-bracketed-nested around head contents close behind b o n c = bracketed-kind around head contents close behind b head.token_type refl o n c
+bracketed-nested around head contents close behind b o n c = bracketed-type around head contents close behind b head.token_type refl o n c
 
 alone-nested : (heads : List Token) (t : Token) (l : Levels) → opened_by t.token_type ≡ None → closes (innermost heads) t.token_type ≡ false → LevelsNested heads l → LevelsNested heads (alone t l)
 alone-nested heads t (levels contents outside) o c n = (((o, c), n.0), n.1)
@@ -179,9 +174,6 @@ followed-nothing (component c cs) = ap (component c) (followed-nothing cs)
 pub onto-nothing : (l : Levels) → onto no_components l ≡ l
 onto-nothing (levels contents outside) = refl
 
-onto-onto : (c : Component) (cs : Components) (l : Levels) → onto (component c no_components) (onto cs l) ≡ onto (component c cs) l
-onto-onto c cs (levels contents outside) = refl
-
 pub alone-onto : (t : Token) (l : Levels) → alone t l ≡ onto (component (preserved t) no_components) l
 alone-onto t (levels contents outside) = refl
 
@@ -190,57 +182,3 @@ enclosed-closed head t contents (levels behind outside) = rw (followed-nothing c
 
 pub enclosed-end : (head : Token) (contents : Components) → enclosed head (onto contents (levels no_components [])) ≡ onto (component (bracketed head contents None) no_components) (levels no_components [])
 enclosed-end head contents = rw (followed-nothing contents) refl
-
--- the end of a bracket
-enclosed-close : (heads : List Token) (head : Token) (contents : Components) (close : Option Token) (behind : List Token) (b : Bracket) → opened_by head.token_type ≡ Some b → IsClosed b close behind
-    → enclosed head (onto contents (levels_of (head ∷ heads) (close_tokens close ++ behind))) ≡ onto (component (bracketed head contents close) no_components) (levels_of heads behind)
-enclosed-close heads head contents None behind b o c =
-    rw (c, levels-end (head ∷ heads), levels-end heads) (enclosed-end head contents)
-enclosed-close heads head contents (Some t) behind b o c =
-    let alone : is_some (opened_by t.token_type) ≡ false = rw c refl in
-    let match : closes (innermost (head ∷ heads)) t.token_type ≡ true = rw (o, c) (is_same_bracket-refl b) in
-    rw (levels-closing (head ∷ heads) t behind alone match) (enclosed-closed head t contents (levels_of heads behind))
-
--- a bracket, with what it holds and its end
-levels-bracket : (heads : List Token) (head : Token) (contents : Components) (close : Option Token) (behind : List Token) (b : Bracket) → opened_by head.token_type ≡ Some b → IsClosed b close behind
-    → levels_of (head ∷ heads) (all_tokens_of contents ++ (close_tokens close ++ behind)) ≡ onto contents (levels_of (head ∷ heads) (close_tokens close ++ behind))
-    → levels_of heads (head ∷ ((all_tokens_of contents ++ close_tokens close) ++ behind)) ≡ onto (component (bracketed head contents close) no_components) (levels_of heads behind)
-levels-bracket heads head contents close behind b o c inside =
-    let Opening : is_some (opened_by head.token_type) ≡ true = rw o refl in
-    rw (append_assoc, levels-opening heads head (all_tokens_of contents ++ (close_tokens close ++ behind)) Opening, inside) (enclosed-close heads head contents close behind b o c)
-
-mutual
-  levels-component : (heads : List Token) (c : Component) (behind : List Token) → IsNested (innermost heads) c behind
-      → levels_of heads (tokens_of c ++ behind) ≡ onto (component c no_components) (levels_of heads behind)
-  levels-component heads (preserved t) behind n =
-      let alone : is_some (opened_by t.token_type) ≡ false = rw n.0 refl in
-      levels-alone heads t behind alone n.1 ∙ alone-onto t (levels_of heads behind)
-  levels-component heads (simple_block head contents close) behind n =
-      let opened : opened_by head.token_type ≡ Some n.0 = rw n.1 refl in
-      let nested = subst (λ (a : Option Bracket). AreNested a contents (close_tokens close ++ behind)) (sym opened) n.2 in
-      let inside = levels-components (head ∷ heads) contents (close_tokens close ++ behind) nested in
-      levels-bracket heads head contents close behind n.0 opened n.3 inside ∙ ap (λ c. onto (component c no_components) (levels_of heads behind)) (bracketed-block head contents close n.0 n.1)
-  levels-component heads (function_block head contents close) behind n =
-      let opened : opened_by head.token_type ≡ Some Round = rw n.1 refl in
-      let nested = subst (λ (a : Option Bracket). AreNested a contents (close_tokens close ++ behind)) (sym opened) n.2 in
-      let inside = levels-components (head ∷ heads) contents (close_tokens close ++ behind) nested in
-      levels-bracket heads head contents close behind Round opened n.3 inside ∙ ap (λ c. onto (component c no_components) (levels_of heads behind)) (bracketed-call head contents close n.0 n.1)
-
-  levels-components : (heads : List Token) (cs : Components) (behind : List Token) → AreNested (innermost heads) cs behind
-      → levels_of heads (all_tokens_of cs ++ behind) ≡ onto cs (levels_of heads behind)
-  levels-components heads no_components behind n = sym (onto-nothing (levels_of heads behind))
-  levels-components heads (component c cs) behind n =
-      let first = levels-component heads c (all_tokens_of cs ++ behind) n.0 in
-      let others = levels-components heads cs behind n.1 in
-      rw append_assoc (first ∙ (ap (onto (component c no_components)) others ∙ onto-onto c cs (levels_of heads behind)))
-
--- components of tokens are the computed ones
-pub components-are : (tokens : List Token) (cs : Components) → IsComponents tokens cs → cs ≡ nesting tokens
-components-are tokens cs is =
-    let all : levels_of [] (all_tokens_of cs ++ []) ≡ onto cs (levels_of [] []) = levels-components [] cs [] is.nested in
-    let joined : all_tokens_of cs ++ [] ≡ tokens = append-nil (all_tokens_of cs) ∙ is.joined in
-    let end : onto cs (levels_of [] []) ≡ levels cs [] = rw (levels-end [], followed-nothing cs) refl in
-    sym (ap contents_of (ap (levels_of []) (sym joined) ∙ (all ∙ end)))
-
-pub one-nesting : (tokens : List Token) (cs ds : Components) → IsComponents tokens cs → IsComponents tokens ds → cs ≡ ds
-one-nesting tokens cs ds c d = components-are tokens cs c ∙ sym (components-are tokens ds d)

@@ -20,7 +20,7 @@ use Rattle.css_model.proofs.FirstNames.{some-text}
 use Rattle.css_model.proofs.FirstNumbers.{numeral-unjoined}
 use Rattle.css_model.proofs.FirstStrings.{first_or}
 use Rattle.css_model.proofs.NumberSizes.{some-length, fraction-length}
-use Rattle.css_model.proofs.Meets.{Meets, meet}
+use Rattle.css_laws.proofs.Meets.{Meets, meet}
 
 -- a character with which no longer class begins, before this rest
 pub record Alone (c : ℕ) (rest : Text) : Type 0 where

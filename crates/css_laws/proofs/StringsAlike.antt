@@ -14,8 +14,8 @@ use Rattle.css_model.specs.inner.Pieces.{consume_comment, string_of_parts, consu
 use Rattle.css_model.proofs.Tests.{or-cases, pick-true}
 use Rattle.css_model.proofs.PartLemmas.{parts_in-stop}
 use Rattle.css_model.proofs.FirstStrings.{stops-at-end, parts-stopped, string-stop, quote-same}
-use Rattle.css_model.proofs.Branches.{first_of, number_or_other, past-white}
-use Rattle.css_model.proofs.Meets.{Meets, meet}
+use Rattle.css_laws.proofs.Branches.{first_of, number_or_other, past-white}
+use Rattle.css_laws.proofs.Meets.{Meets, meet}
 
 -- ---- the parts of a string
 

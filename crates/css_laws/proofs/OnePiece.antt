@@ -19,12 +19,12 @@ use Rattle.css_model.proofs.FirstStrings.{first_or}
 use Rattle.css_model.proofs.Laws.{IsFirst}
 use Rattle.css_model.proofs.NumberPieces.{numbers-first as computed-numbers}
 use Rattle.css_model.proofs.NumberSizes.{some-length}
-use Rattle.css_model.proofs.Alone.{name-some, delim-alone, single-alone, alone-meets}
-use Rattle.css_model.proofs.Branches.{first_of, number_or_other}
-use Rattle.css_model.proofs.Meets.{Meets, meet, name-same}
-use Rattle.css_model.proofs.NamesAlike.{ident-are, function-are, url-are, bad_url-are, names-first}
-use Rattle.css_model.proofs.NumbersAlike.{number-are, percentage-are, dimension-are, numbers-first}
-use Rattle.css_model.proofs.StringsAlike.{string-are, bad_string-are, strings-first}
+use Rattle.css_laws.proofs.Alone.{name-some, delim-alone, single-alone, alone-meets}
+use Rattle.css_laws.proofs.Branches.{first_of, number_or_other}
+use Rattle.css_laws.proofs.Meets.{Meets, meet, name-same}
+use Rattle.css_laws.proofs.NamesAlike.{ident-are, function-are, url-are, bad_url-are, names-first}
+use Rattle.css_laws.proofs.NumbersAlike.{number-are, percentage-are, dimension-are, numbers-first}
+use Rattle.css_laws.proofs.StringsAlike.{string-are, bad_string-are, strings-first}
 
 -- ---- whitespace, comments, `<!--` and `-->`
 

@@ -12,9 +12,9 @@ use Rattle.css_model.specs.inner.Pieces.{pieces, tokens}
 use Rattle.css_model.proofs.Laws.{pieces-nil, pieces-cons, behind-first}
 use Rattle.css_model.proofs.NumberPieces.{numeral-some}
 use Rattle.css_model.proofs.NumberSizes.{some-length}
-use Rattle.css_model.proofs.Alone.{name-some, open-long, head-long}
-use Rattle.css_model.proofs.Branches.{first_of}
-use Rattle.css_model.proofs.OnePiece.{piece-is}
+use Rattle.css_laws.proofs.Alone.{name-some, open-long, head-long}
+use Rattle.css_laws.proofs.Branches.{first_of}
+use Rattle.css_laws.proofs.OnePiece.{piece-is}
 
 -- ---- a piece has a character
 

@@ -19,8 +19,8 @@ use Rattle.css_model.proofs.FirstPieces.{cdc-parts}
 use Rattle.css_model.proofs.Units.{number-no_name}
 use Rattle.css_model.proofs.UrlPieces.{Headed, UrlHeaded}
 use Rattle.css_model.proofs.Urls.{after_white, after_url_parts, is_closed, url-parts}
-use Rattle.css_model.proofs.Branches.{first_of, past-comment, past-number}
-use Rattle.css_model.proofs.Meets.{Meets, meet, name-same}
+use Rattle.css_laws.proofs.Branches.{first_of, past-comment, past-number}
+use Rattle.css_laws.proofs.Meets.{Meets, meet, name-same}
 
 -- ---- how long they are
 

@@ -21,8 +21,8 @@ use Rattle.css_model.proofs.FirstNames.{some-text}
 use Rattle.css_model.proofs.NumberBounds.{numeral-is, IsOther}
 use Rattle.css_model.proofs.NumberPieces.{behind_numeral, behind-is, number-char, percent-no_name}
 use Rattle.css_model.proofs.Units.{ident-other}
-use Rattle.css_model.proofs.Branches.{first_of, past-comment}
-use Rattle.css_model.proofs.Meets.{Meets, meet, name-same}
+use Rattle.css_laws.proofs.Branches.{first_of, past-comment}
+use Rattle.css_laws.proofs.Meets.{Meets, meet, name-same}
 
 -- ---- the number in front
 
