@@ -2,3 +2,4 @@
 pub mod Fronts
 pub mod Pieces
 pub mod Nesting
+pub mod Examples
