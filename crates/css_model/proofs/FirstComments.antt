@@ -3,14 +3,13 @@ use Rattle.std.proofs.Common.{◌≡◌, ◌∙◌, sym, ap, refl, subst, ℕ, s
 use Rattle.std.proofs.lemmas.Bool.{cases_Bool, false≢true}
 use Rattle.std.proofs.Math.Seq.{drop-append_seam}
 use Rattle.std.specs.Prelude.{codes}
-use Rattle.css_model.specs.Classes.{Text, has_front}
+use Rattle.css_model.specs.Classes.{Text, solidus, has_front}
 use Rattle.css_model.specs.Spellings.{IsEnd}
 use Rattle.css_model.specs.TokenList.{piece_text, has_comment_end}
 use Rattle.css_model.specs.inner.Pieces.{comment_inside, comment_end, consume_comment}
 use Rattle.css_model.proofs.Tests.{or-none, and-left, and-right, or-false-left, or-false-right, pick-true, pick-false}
 use Rattle.css_model.proofs.Laws.{IsFirst}
-use Rattle.css_model.proofs.Longest.{comments, Bound, longest}
-use Rattle.css_model.proofs.FirstStrings.{bounds-47}
+use Rattle.css_model.proofs.Longest.{comments, Bound, bounds-only, longest}
 
 -- what a text has in front
 pub front-is : (ds cs : Text) → has_front ds cs ≡ true → ds ++ drop (length ds) cs ≡ cs
@@ -111,5 +110,5 @@ comment-first cs =
       joins = ap (λ xs. 47 ∷ 42 ∷ xs) (append_assoc (comment_inside cs) (comment_end (drop (length (comment_inside cs)) cs)) inside.rest ∙ inside.joins);
       some = omega arith;
       is = record { inside = comment_inside cs; end = comment_end (drop (length (comment_inside cs)) cs); spelling = refl; no_end_inside = inside.no_end; ends = inside.ends };
-      longest = longest (47 ∷ 42 ∷ cs) (length (piece_text (consume_comment cs))) (omega arith) (bounds-47 (42 ∷ cs) (length (piece_text (consume_comment cs))) (comment-bound cs));
+      longest = longest (47 ∷ 42 ∷ cs) (length (piece_text (consume_comment cs))) (omega arith) (bounds-only comments solidus (42 ∷ cs) (length (piece_text (consume_comment cs))) refl (comment-bound cs));
     }

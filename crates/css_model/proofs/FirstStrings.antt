@@ -5,7 +5,7 @@ use Rattle.std.proofs.lemmas.List.{append-nil}
 use Rattle.std.proofs.Math.Seq.{drop-append_seam}
 use Rattle.std.specs.Prelude.{if◌then◌else◌}
 use Rattle.css_model.specs.declared.place.Place.{Place}
-use Rattle.css_model.specs.Classes.{Text, backslash, is_newline, is_hex_digit, is_whitespace, is_quote, is_empty}
+use Rattle.css_model.specs.Classes.{Text, tab, newline, space, double_quote, single_quote, backslash, is_newline, is_hex_digit, is_whitespace, is_quote, is_empty}
 use Rattle.css_model.specs.declared.token.TokenType.TheVariants.{String, BadString, Whitespace}
 use Rattle.css_model.specs.declared.place.Place.TheVariants.{InName, InString}
 use Rattle.css_model.specs.Parts.{Part, itself, escaped, escaped_newline, part_text, parts_text, AreParts, meanings, may_stand, would_start_ident}
@@ -17,89 +17,23 @@ use Rattle.css_model.proofs.Tests.{or-cases, pick-true, pick-false}
 use Rattle.css_model.proofs.Runs.{run_in-longest, Runs, runs}
 use Rattle.css_model.proofs.PartLemmas.{parts_in-cons, parts_in-stop, parts_in-nil, parts_in-are, Fronts, fronts}
 use Rattle.css_model.proofs.Laws.{IsFirst}
-use Rattle.css_model.proofs.Longest.{comments, whites, quotes, numbers, names, cdcs, cdos, hashes, ats, Bound, Bounds, longest}
+use Rattle.css_model.proofs.Longest.{whites, quotes, Bound, only_begins, bounds-only, longest}
 
--- ---- characters with which one class alone begins
+-- ---- code points with which one group alone begins
 
-bounds-9 : (cs : Text) (k : ℕ) → Bound whites (9 ∷ cs) k → Bounds (9 ∷ cs) k
-bounds-9 cs k b comments = inl refl
-bounds-9 cs k b whites = inr b
-bounds-9 cs k b quotes = inl refl
-bounds-9 cs k b numbers = inl refl
-bounds-9 cs k b names = inl (ap would_start_ident (parts_in-stop InName 9 cs refl))
-bounds-9 cs k b cdcs = inl refl
-bounds-9 cs k b cdos = inl refl
-bounds-9 cs k b hashes = inl refl
-bounds-9 cs k b ats = inl refl
-
-bounds-10 : (cs : Text) (k : ℕ) → Bound whites (10 ∷ cs) k → Bounds (10 ∷ cs) k
-bounds-10 cs k b comments = inl refl
-bounds-10 cs k b whites = inr b
-bounds-10 cs k b quotes = inl refl
-bounds-10 cs k b numbers = inl refl
-bounds-10 cs k b names = inl (ap would_start_ident (parts_in-stop InName 10 cs refl))
-bounds-10 cs k b cdcs = inl refl
-bounds-10 cs k b cdos = inl refl
-bounds-10 cs k b hashes = inl refl
-bounds-10 cs k b ats = inl refl
-
-bounds-32 : (cs : Text) (k : ℕ) → Bound whites (32 ∷ cs) k → Bounds (32 ∷ cs) k
-bounds-32 cs k b comments = inl refl
-bounds-32 cs k b whites = inr b
-bounds-32 cs k b quotes = inl refl
-bounds-32 cs k b numbers = inl refl
-bounds-32 cs k b names = inl (ap would_start_ident (parts_in-stop InName 32 cs refl))
-bounds-32 cs k b cdcs = inl refl
-bounds-32 cs k b cdos = inl refl
-bounds-32 cs k b hashes = inl refl
-bounds-32 cs k b ats = inl refl
-
-bounds-34 : (cs : Text) (k : ℕ) → Bound quotes (34 ∷ cs) k → Bounds (34 ∷ cs) k
-bounds-34 cs k b comments = inl refl
-bounds-34 cs k b whites = inl refl
-bounds-34 cs k b quotes = inr b
-bounds-34 cs k b numbers = inl refl
-bounds-34 cs k b names = inl (ap would_start_ident (parts_in-stop InName 34 cs refl))
-bounds-34 cs k b cdcs = inl refl
-bounds-34 cs k b cdos = inl refl
-bounds-34 cs k b hashes = inl refl
-bounds-34 cs k b ats = inl refl
-
-bounds-39 : (cs : Text) (k : ℕ) → Bound quotes (39 ∷ cs) k → Bounds (39 ∷ cs) k
-bounds-39 cs k b comments = inl refl
-bounds-39 cs k b whites = inl refl
-bounds-39 cs k b quotes = inr b
-bounds-39 cs k b numbers = inl refl
-bounds-39 cs k b names = inl (ap would_start_ident (parts_in-stop InName 39 cs refl))
-bounds-39 cs k b cdcs = inl refl
-bounds-39 cs k b cdos = inl refl
-bounds-39 cs k b hashes = inl refl
-bounds-39 cs k b ats = inl refl
-
-pub bounds-47 : (cs : Text) (k : ℕ) → Bound comments (47 ∷ cs) k → Bounds (47 ∷ cs) k
-bounds-47 cs k b comments = inr b
-bounds-47 cs k b whites = inl refl
-bounds-47 cs k b quotes = inl refl
-bounds-47 cs k b numbers = inl refl
-bounds-47 cs k b names = inl (ap would_start_ident (parts_in-stop InName 47 cs refl))
-bounds-47 cs k b cdcs = inl refl
-bounds-47 cs k b cdos = inl refl
-bounds-47 cs k b hashes = inl refl
-bounds-47 cs k b ats = inl refl
-
-bounds-white : (c : ℕ) (cs : Text) (k : ℕ) → is_whitespace c ≡ true → Bound whites (c ∷ cs) k → Bounds (c ∷ cs) k
-bounds-white c cs k h b = elim (or-cases (is_newline c) ((c == 9) || (c == 32)) h) [
-  | inl t ↦ subst (λ x. Bound whites (x ∷ cs) k → Bounds (x ∷ cs) k) (sym (eqb-true c 10 t)) (bounds-10 cs k) b
-  | inr t ↦ elim (or-cases (c == 9) (c == 32) t) [
-    | inl u ↦ subst (λ x. Bound whites (x ∷ cs) k → Bounds (x ∷ cs) k) (sym (eqb-true c 9 u)) (bounds-9 cs k) b
-    | inr u ↦ subst (λ x. Bound whites (x ∷ cs) k → Bounds (x ∷ cs) k) (sym (eqb-true c 32 u)) (bounds-32 cs k) b
+white-only : (c : ℕ) → is_whitespace c ≡ true → only_begins whites c ≡ true
+white-only c h = elim (or-cases (is_newline c) ((c == tab) || (c == space)) h) [
+  | inl t ↦ subst (λ x. only_begins whites x ≡ true) (sym (eqb-true c newline t)) refl
+  | inr t ↦ elim (or-cases (c == tab) (c == space) t) [
+    | inl u ↦ subst (λ x. only_begins whites x ≡ true) (sym (eqb-true c tab u)) refl
+    | inr u ↦ subst (λ x. only_begins whites x ≡ true) (sym (eqb-true c space u)) refl
   ]
 ]
 
-bounds-quote : (c : ℕ) (cs : Text) (k : ℕ) → is_quote c ≡ true → Bound quotes (c ∷ cs) k → Bounds (c ∷ cs) k
-bounds-quote c cs k h b = elim (or-cases (c == 34) (c == 39) h) [
-  | inl u ↦ subst (λ x. Bound quotes (x ∷ cs) k → Bounds (x ∷ cs) k) (sym (eqb-true c 34 u)) (bounds-34 cs k) b
-  | inr u ↦ subst (λ x. Bound quotes (x ∷ cs) k → Bounds (x ∷ cs) k) (sym (eqb-true c 39 u)) (bounds-39 cs k) b
+quote-only : (c : ℕ) → is_quote c ≡ true → only_begins quotes c ≡ true
+quote-only c h = elim (or-cases (c == double_quote) (c == single_quote) h) [
+  | inl t ↦ subst (λ x. only_begins quotes x ≡ true) (sym (eqb-true c double_quote t)) refl
+  | inr t ↦ subst (λ x. only_begins quotes x ≡ true) (sym (eqb-true c single_quote t)) refl
 ]
 
 -- ---- whitespace
@@ -114,7 +48,7 @@ white-first c cs h =
       joins = run.joins;
       some = some;
       is = (run.passes, ap is_empty is);
-      longest = longest (c ∷ cs) (length (run_in is_whitespace (c ∷ cs))) some (bounds-white c cs (length (run_in is_whitespace (c ∷ cs))) h
+      longest = longest (c ∷ cs) (length (run_in is_whitespace (c ∷ cs))) some (bounds-only whites c cs (length (run_in is_whitespace (c ∷ cs))) (white-only c h)
           (λ s behind e i. subst (λ xs. length s ≤ length (run_in is_whitespace xs)) e (run_in-longest is_whitespace s behind i.0)));
     }
 
@@ -234,7 +168,7 @@ string-at quote cs [] h e =
       some = omega arith;
       is = record { quote = quote; parts = parts; end = []; spelling = refl; is_quoted = h; are_parts = subst (AreParts (InString quote) parts) e f.are; means = refl; ends = inr (refl, refl) };
       longest = λ q more j i. subst (λ xs. length (piece_text q) ≤ suc (length xs)) closed
-          (longest (quote ∷ cs) (suc (length (closed_text (InString quote) quote cs))) (omega arith) (bounds-quote quote cs (suc (length (closed_text (InString quote) quote cs))) h (string-bound quote cs h)) q more j i);
+          (longest (quote ∷ cs) (suc (length (closed_text (InString quote) quote cs))) (omega arith) (bounds-only quotes quote cs (suc (length (closed_text (InString quote) quote cs))) (quote-only quote h) (string-bound quote cs h)) q more j i);
     }
 string-at quote cs (d ∷ ds) h e =
     let parts : List Part = parts_in (InString quote) cs in
@@ -253,7 +187,7 @@ string-at quote cs (d ∷ ds) h e =
             some = omega arith;
             is = record { quote = quote; parts = parts; end = quote ∷ []; spelling = refl; is_quoted = h; are_parts = subst (λ x. AreParts (InString quote) parts (x ∷ ds)) same (subst (AreParts (InString quote) parts) e f.are); means = refl; ends = inl refl };
             longest = λ q more j i. subst (λ xs. length (piece_text q) ≤ suc (length xs)) (closed ∙ ap (λ xs. parts_text parts ++ xs) (pick-true (d == quote) (d ∷ []) [] t ∙ ap (λ x. x ∷ []) same))
-                (longest (quote ∷ cs) (suc (length (closed_text (InString quote) quote cs))) (omega arith) (bounds-quote quote cs (suc (length (closed_text (InString quote) quote cs))) h (string-bound quote cs h)) q more j i);
+                (longest (quote ∷ cs) (suc (length (closed_text (InString quote) quote cs))) (omega arith) (bounds-only quotes quote cs (suc (length (closed_text (InString quote) quote cs))) (quote-only quote h) (string-bound quote cs h)) q more j i);
           })
       | inr n ↦
           subst (λ p. IsFirst p (quote ∷ cs)) (sym (pick-false (d == quote) yes no n)) (record {
@@ -262,7 +196,7 @@ string-at quote cs (d ∷ ds) h e =
             some = omega arith;
             is = record { quote = quote; parts = parts; spelling = refl; is_quoted = h; are_parts = subst (AreParts (InString quote) parts) e f.are; before_newline = string-stopped quote d ds (ap (parts_in (InString quote)) (sym e) ∙ f.ends) n };
             longest = λ q more j i. subst (λ xs. length (piece_text q) ≤ suc (length xs)) (closed ∙ (ap (λ xs. parts_text parts ++ xs) (pick-false (d == quote) (d ∷ []) [] n) ∙ append-nil (parts_text parts)))
-                (longest (quote ∷ cs) (suc (length (closed_text (InString quote) quote cs))) (omega arith) (bounds-quote quote cs (suc (length (closed_text (InString quote) quote cs))) h (string-bound quote cs h)) q more j i);
+                (longest (quote ∷ cs) (suc (length (closed_text (InString quote) quote cs))) (omega arith) (bounds-only quotes quote cs (suc (length (closed_text (InString quote) quote cs))) (quote-only quote h) (string-bound quote cs h)) q more j i);
           })
     ]
 

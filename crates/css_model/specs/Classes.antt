@@ -44,11 +44,18 @@ hyphen = 45
 abbrev pub full_stop : ℕ
 full_stop = 46
 
+-- `/`
+abbrev pub solidus : ℕ
+solidus = 47
+
 abbrev pub colon : ℕ
 colon = 58
 
 abbrev pub semicolon : ℕ
 semicolon = 59
+
+abbrev pub less_than : ℕ
+less_than = 60
 
 -- `@`
 abbrev pub commercial_at : ℕ

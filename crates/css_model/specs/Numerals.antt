@@ -1,7 +1,7 @@
 -- Numbers as they are written, and their values (CSS Syntax 3, sections 4.3.12 and 4.3.13).
 use Rattle.std.specs.Prelude.{◌≡◌, ℕ, ◌+◌, ◌*◌, ◌-◌, ◌/◌, ◌^◌, ◌==◌, ◌&&◌, ◌||◌, not, [], ◌∷◌, ◌++◌, length, ℤ, pos, neg_ℤ, Bool, true, false, if◌then◌else◌}
 use Rattle.std.specs.List.{list_all}
-use Rattle.units64.specs.Millionths.{clamped_millionths}
+use Rattle.units64.specs.Limits.{clamped_millionths}
 use Rattle.css_model.specs.declared.token.Number.{Number}
 use Rattle.css_model.specs.Classes.{Text, hyphen, full_stop, is_digit, is_sign, is_e, begins, is_empty, is_at_most_one}
 
