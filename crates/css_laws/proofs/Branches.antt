@@ -18,18 +18,33 @@ first_of (c ∷ cs) = first_piece c cs
 
 -- a number, or what stands in front where none does
 abbrev pub number_or_other : ℕ → Text → Piece
-number_or_other c cs = if would_start_number (c ∷ cs) then consume_numeric (numeral_in (c ∷ cs)) (drop (length (numeral_text (numeral_in (c ∷ cs)))) (c ∷ cs)) else other_piece (parts_in InName (c ∷ cs)) c cs
+number_or_other c cs =
+    if would_start_number (c ∷ cs) then consume_numeric (numeral_in (c ∷ cs))
+    (drop (length (numeral_text (numeral_in (c ∷ cs)))) (c ∷ cs)) else other_piece
+    (parts_in InName (c ∷ cs)) c cs
 
 -- behind whitespace
-pub past-white : (c : ℕ) (cs : Text) → is_whitespace c ≡ false → first_of (c ∷ cs) ≡ (if is_quote c then consume_string c cs else (if has_front (codes "/*") (c ∷ cs) then consume_comment (drop 1 cs) else number_or_other c cs))
-past-white c cs w = pick-false (is_whitespace c) (token Whitespace (run_in is_whitespace (c ∷ cs))) (if is_quote c then consume_string c cs else (if has_front (codes "/*") (c ∷ cs) then consume_comment (drop 1 cs) else number_or_other c cs)) w
+pub past-white : (c : ℕ) (cs : Text) → is_whitespace c ≡ false
+    → first_of (c ∷ cs)
+    ≡ (if is_quote c then consume_string c cs else
+    (if has_front (codes "/*") (c ∷ cs) then consume_comment (drop 1 cs) else number_or_other c cs))
+past-white c cs w =
+    pick-false (is_whitespace c) (token Whitespace (run_in is_whitespace (c ∷ cs)))
+    (if is_quote c then consume_string c cs else
+    (if has_front (codes "/*") (c ∷ cs) then consume_comment (drop 1 cs) else number_or_other c cs)) w
 
 -- behind whitespace, strings and comments
-pub past-comment : (c : ℕ) (cs : Text) → is_whitespace c ≡ false → is_quote c ≡ false → has_front (codes "/*") (c ∷ cs) ≡ false → first_of (c ∷ cs) ≡ number_or_other c cs
+pub past-comment : (c : ℕ) (cs : Text) → is_whitespace c ≡ false → is_quote c ≡ false
+    → has_front (codes "/*") (c ∷ cs) ≡ false → first_of (c ∷ cs) ≡ number_or_other c cs
 past-comment c cs w q k =
     past-white c cs w
-    ∙ (pick-false (is_quote c) (consume_string c cs) (if has_front (codes "/*") (c ∷ cs) then consume_comment (drop 1 cs) else number_or_other c cs) q
+    ∙ (pick-false (is_quote c) (consume_string c cs)
+    (if has_front (codes "/*") (c ∷ cs) then consume_comment (drop 1 cs) else number_or_other c cs) q
     ∙ pick-false (has_front (codes "/*") (c ∷ cs)) (consume_comment (drop 1 cs)) (number_or_other c cs) k)
 
-pub past-number : (c : ℕ) (cs : Text) → would_start_number (c ∷ cs) ≡ false → number_or_other c cs ≡ other_piece (parts_in InName (c ∷ cs)) c cs
-past-number c cs n = pick-false (would_start_number (c ∷ cs)) (consume_numeric (numeral_in (c ∷ cs)) (drop (length (numeral_text (numeral_in (c ∷ cs)))) (c ∷ cs))) (other_piece (parts_in InName (c ∷ cs)) c cs) n
+pub past-number : (c : ℕ) (cs : Text) → would_start_number (c ∷ cs) ≡ false
+    → number_or_other c cs ≡ other_piece (parts_in InName (c ∷ cs)) c cs
+past-number c cs n =
+    pick-false (would_start_number (c ∷ cs))
+    (consume_numeric (numeral_in (c ∷ cs)) (drop (length (numeral_text (numeral_in (c ∷ cs)))) (c ∷ cs)))
+    (other_piece (parts_in InName (c ∷ cs)) c cs) n

@@ -31,15 +31,24 @@ use Rattle.css_laws.proofs.StringsAlike.{string-are, bad_string-are, strings-fir
 white-meets : (s rest cs : Text) → begins is_whitespace cs ≡ true → Meets Whitespace s rest (first_of cs)
 white-meets s rest [] h = absurd (false≢true h)
 white-meets s rest (c ∷ cs) h =
-    let other : Piece = if is_quote c then consume_string c cs else (if has_front (codes "/*") (c ∷ cs) then consume_comment (drop 1 cs) else number_or_other c cs) in
-    subst (Meets Whitespace s rest) (sym (pick-true (is_whitespace c) (token Whitespace (run_in is_whitespace (c ∷ cs))) other h)) (meet _ _ _ _ rest (λ k. refl))
+    let other : Piece =
+    if is_quote c then consume_string c cs else
+    (if has_front (codes "/*") (c ∷ cs) then consume_comment (drop 1 cs) else number_or_other c cs) in
+    subst (Meets Whitespace s rest)
+    (sym (pick-true (is_whitespace c) (token Whitespace (run_in is_whitespace (c ∷ cs))) other h))
+    (meet _ _ _ _ rest (λ k. refl))
 
-comment-is : (s rest : Text) → IsComment s rest → piece_text (first_of (s ++ rest)) ≡ s → comment s ≡ first_of (s ++ rest)
-comment-is s rest h = subst (λ xs. piece_text (first_of (xs ++ rest)) ≡ xs → comment xs ≡ first_of (xs ++ rest)) (sym h.spelling) (λ e. ap comment (sym e))
+comment-is : (s rest : Text) → IsComment s rest → piece_text (first_of (s ++ rest)) ≡ s
+    → comment s ≡ first_of (s ++ rest)
+comment-is s rest h =
+    subst (λ xs. piece_text (first_of (xs ++ rest)) ≡ xs → comment xs ≡ first_of (xs ++ rest))
+    (sym h.spelling) (λ e. ap comment (sym e))
 
 cdo-is : (s rest : Text) → s ≡ codes "<!--" → token Cdo s ≡ first_of (s ++ rest)
 cdo-is s rest e =
-    subst (λ xs. token Cdo xs ≡ first_of (xs ++ rest)) (sym e) (ap (λ ps. other_piece ps 60 (codes "!--" ++ rest)) (sym (parts_in-stop InName 60 (codes "!--" ++ rest) refl)))
+    subst (λ xs. token Cdo xs ≡ first_of (xs ++ rest)) (sym e)
+    (ap (λ ps. other_piece ps 60 (codes "!--" ++ rest))
+    (sym (parts_in-stop InName 60 (codes "!--" ++ rest) refl)))
 
 cdc-is : (s rest : Text) → s ≡ codes "-->" → token Cdc s ≡ first_of (s ++ rest)
 cdc-is s rest e = subst (λ xs. token Cdc xs ≡ first_of (xs ++ rest)) (sym e) refl
@@ -53,60 +62,95 @@ mark-longer m d s tail e l j =
     let size : length s ≡ suc (length tail) = ap length e in
     absurd (omega (arith, l, one, size))
 
-hash-same : (a b : Text) (i j : Bool) (s rest : Text) → Spells (Hash a i) s rest → Spells (Hash b j) s rest → Hash a i ≡ Hash b j
+hash-same : (a b : Text) (i j : Bool) (s rest : Text) → Spells (Hash a i) s rest → Spells (Hash b j) s rest
+    → Hash a i ≡ Hash b j
 hash-same a b i j s rest h k =
     let tail : h.0 ≡ k.0 = ap (drop 1) (sym h.1 ∙ k.1) in
-    let same : (a ≡ b) × (i ≡ j) = name-same a b i j h.0 rest h.3 (subst (λ x. IsName b j x rest) (sym tail) k.3) in
+    let same : (a ≡ b) × (i ≡ j) =
+    name-same a b i j h.0 rest h.3 (subst (λ x. IsName b j x rest) (sym tail) k.3) in
     λ t. Hash (same.0 t) (same.1 t)
 
-hash-meets : (name : Text) (is_id : Bool) (s rest : Text) → Spells (Hash name is_id) s rest → (parts : List Part) → Meets (Hash name is_id) s rest (marked_piece 35 parts)
+hash-meets : (name : Text) (is_id : Bool) (s rest : Text) → Spells (Hash name is_id) s rest
+    → (parts : List Part) → Meets (Hash name is_id) s rest (marked_piece 35 parts)
 hash-meets name is_id s rest h parts =
-    cond_both (not (is_empty (parts_text parts))) (token (Hash (meanings InName parts) (would_start_ident parts)) (codes "#" ++ parts_text parts)) (single_piece 35) (Meets (Hash name is_id) s rest)
-    (λ t. meet _ _ _ _ rest (hash-same name (meanings InName parts) is_id (would_start_ident parts) s rest h))
+    cond_both (not (is_empty (parts_text parts)))
+    (token (Hash (meanings InName parts) (would_start_ident parts)) (codes "#" ++ parts_text parts))
+    (single_piece 35) (Meets (Hash name is_id) s rest)
+    (λ t. meet _ _ _ _ rest
+    (hash-same name (meanings InName parts) is_id (would_start_ident parts) s rest h))
     (λ n j k. absurd (mark-longer 35 35 s h.0 h.1 (some-length h.0 h.2) j))
 
-hash-first : (name : Text) (is_id : Bool) (s rest : Text) → Spells (Hash name is_id) s rest → Meets (Hash name is_id) s rest (first_of (s ++ rest))
+hash-first : (name : Text) (is_id : Bool) (s rest : Text) → Spells (Hash name is_id) s rest
+    → Meets (Hash name is_id) s rest (first_of (s ++ rest))
 hash-first name is_id s rest h =
     let behind : Text = h.0 ++ rest in
-    let front : first_of (35 ∷ behind) ≡ marked_piece 35 (parts_in InName behind) = ap (λ ps. other_piece ps 35 behind) (parts_in-stop InName 35 behind refl) in
-    subst (Meets (Hash name is_id) s rest) (sym (ap (λ xs. first_of (xs ++ rest)) h.1 ∙ front)) (hash-meets name is_id s rest h (parts_in InName behind))
+    let front : first_of (35 ∷ behind) ≡ marked_piece 35 (parts_in InName behind) =
+    ap (λ ps. other_piece ps 35 behind) (parts_in-stop InName 35 behind refl) in
+    subst (Meets (Hash name is_id) s rest) (sym (ap (λ xs. first_of (xs ++ rest)) h.1 ∙ front))
+    (hash-meets name is_id s rest h (parts_in InName behind))
 
-at-same : (a b : Text) (s rest : Text) → Spells (AtKeyword a) s rest → Spells (AtKeyword b) s rest → AtKeyword a ≡ AtKeyword b
+at-same : (a b : Text) (s rest : Text) → Spells (AtKeyword a) s rest → Spells (AtKeyword b) s rest
+    → AtKeyword a ≡ AtKeyword b
 at-same a b s rest h k =
     let tail : h.0 ≡ k.0 = ap (drop 1) (sym h.1 ∙ k.1) in
-    ap AtKeyword ((name-same a b true true h.0 rest h.2 (subst (λ x. IsName b true x rest) (sym tail) k.2)).0)
+    ap AtKeyword ((name-same a b true true h.0 rest h.2
+    (subst (λ x. IsName b true x rest) (sym tail) k.2)).0)
 
-at-meets : (name : Text) (s rest : Text) → Spells (AtKeyword name) s rest → (parts : List Part) → Meets (AtKeyword name) s rest (marked_piece 64 parts)
+at-meets : (name : Text) (s rest : Text) → Spells (AtKeyword name) s rest → (parts : List Part)
+    → Meets (AtKeyword name) s rest (marked_piece 64 parts)
 at-meets name s rest h parts =
-    cond_both (would_start_ident parts) (token (AtKeyword (meanings InName parts)) (codes "@" ++ parts_text parts)) (single_piece 64) (Meets (AtKeyword name) s rest)
+    cond_both (would_start_ident parts)
+    (token (AtKeyword (meanings InName parts)) (codes "@" ++ parts_text parts)) (single_piece 64)
+    (Meets (AtKeyword name) s rest)
     (λ t. meet _ _ _ _ rest (at-same name (meanings InName parts) s rest h))
     (λ n j k. absurd (mark-longer 64 64 s h.0 h.1 (name-some name h.0 rest h.2) j))
 
-at-first : (name : Text) (s rest : Text) → Spells (AtKeyword name) s rest → Meets (AtKeyword name) s rest (first_of (s ++ rest))
+at-first : (name : Text) (s rest : Text) → Spells (AtKeyword name) s rest
+    → Meets (AtKeyword name) s rest (first_of (s ++ rest))
 at-first name s rest h =
     let behind : Text = h.0 ++ rest in
-    let front : first_of (64 ∷ behind) ≡ marked_piece 64 (parts_in InName behind) = ap (λ ps. other_piece ps 64 behind) (parts_in-stop InName 64 behind refl) in
-    subst (Meets (AtKeyword name) s rest) (sym (ap (λ xs. first_of (xs ++ rest)) h.1 ∙ front)) (at-meets name s rest h (parts_in InName behind))
+    let front : first_of (64 ∷ behind) ≡ marked_piece 64 (parts_in InName behind) =
+    ap (λ ps. other_piece ps 64 behind) (parts_in-stop InName 64 behind refl) in
+    subst (Meets (AtKeyword name) s rest) (sym (ap (λ xs. first_of (xs ++ rest)) h.1 ∙ front))
+    (at-meets name s rest h (parts_in InName behind))
 
 -- ---- all classes
 
 -- a token of one code point
-single-meets : (token_type : TokenType) (s rest : Text) → IsSingle token_type s → Spells token_type s rest → Meets token_type s rest (first_of (s ++ rest))
-single-meets token_type s rest i h = alone-meets token_type i.c s rest (single-alone i.c token_type rest i.is) i.spelling h (first_of (s ++ rest))
+single-meets : (token_type : TokenType) (s rest : Text) → IsSingle token_type s → Spells token_type s rest
+    → Meets token_type s rest (first_of (s ++ rest))
+single-meets token_type s rest i h =
+    alone-meets token_type i.c s rest (single-alone i.c token_type rest i.is) i.spelling h
+    (first_of (s ++ rest))
 
-token-meets : (token_type : TokenType) (s rest : Text) → Spells token_type s rest → Meets token_type s rest (first_of (s ++ rest))
-token-meets (Ident name) s rest h = names-first (Ident name) s rest (ident-are name s rest h) (s ++ rest) (demands (Ident name) s rest h)
-token-meets (Function name) s rest h = names-first (Function name) s rest (function-are name s rest h) (s ++ rest) (demands (Function name) s rest h)
+token-meets : (token_type : TokenType) (s rest : Text) → Spells token_type s rest
+    → Meets token_type s rest (first_of (s ++ rest))
+token-meets (Ident name) s rest h =
+    names-first (Ident name) s rest (ident-are name s rest h) (s ++ rest) (demands (Ident name) s rest h)
+token-meets (Function name) s rest h =
+    names-first (Function name) s rest (function-are name s rest h) (s ++ rest)
+    (demands (Function name) s rest h)
 token-meets (AtKeyword name) s rest h = at-first name s rest h
 token-meets (Hash name is_id) s rest h = hash-first name is_id s rest h
-token-meets (String value) s rest h = strings-first (String value) s rest (string-are value s rest h) (s ++ rest) (demands (String value) s rest h)
-token-meets BadString s rest h = strings-first BadString s rest (bad_string-are s rest h) (s ++ rest) (demands BadString s rest h)
-token-meets (Url value) s rest h = names-first (Url value) s rest (url-are value s rest h) (s ++ rest) (demands (Url value) s rest h)
-token-meets BadUrl s rest h = names-first BadUrl s rest (bad_url-are s rest h) (s ++ rest) (demands BadUrl s rest h)
-token-meets (Delim c) s rest h = alone-meets (Delim c) c s rest (delim-alone c s rest h) h.spelling h (first_of (s ++ rest))
-token-meets (Number n) s rest h = numbers-first (Number n) s rest (number-are n s rest h) (s ++ rest) (demands (Number n) s rest h)
-token-meets (Percentage n) s rest h = numbers-first (Percentage n) s rest (percentage-are n s rest h) (s ++ rest) (demands (Percentage n) s rest h)
-token-meets (Dimension n unit) s rest h = numbers-first (Dimension n unit) s rest (dimension-are n unit s rest h) (s ++ rest) (demands (Dimension n unit) s rest h)
+token-meets (String value) s rest h =
+    strings-first (String value) s rest (string-are value s rest h) (s ++ rest)
+    (demands (String value) s rest h)
+token-meets BadString s rest h =
+    strings-first BadString s rest (bad_string-are s rest h) (s ++ rest) (demands BadString s rest h)
+token-meets (Url value) s rest h =
+    names-first (Url value) s rest (url-are value s rest h) (s ++ rest) (demands (Url value) s rest h)
+token-meets BadUrl s rest h =
+    names-first BadUrl s rest (bad_url-are s rest h) (s ++ rest) (demands BadUrl s rest h)
+token-meets (Delim c) s rest h =
+    alone-meets (Delim c) c s rest (delim-alone c s rest h) h.spelling h (first_of (s ++ rest))
+token-meets (Number n) s rest h =
+    numbers-first (Number n) s rest (number-are n s rest h) (s ++ rest) (demands (Number n) s rest h)
+token-meets (Percentage n) s rest h =
+    numbers-first (Percentage n) s rest (percentage-are n s rest h) (s ++ rest)
+    (demands (Percentage n) s rest h)
+token-meets (Dimension n unit) s rest h =
+    numbers-first (Dimension n unit) s rest (dimension-are n unit s rest h) (s ++ rest)
+    (demands (Dimension n unit) s rest h)
 token-meets Whitespace s rest h = white-meets s rest (s ++ rest) (demands Whitespace s rest h)
 token-meets Cdo s rest h = λ e k. cdo-is s rest h
 token-meets Cdc s rest h = λ e k. cdc-is s rest h
@@ -116,7 +160,9 @@ token-meets Comma s rest h = single-meets Comma s rest h h
 token-meets (Opening b) s rest h = single-meets (Opening b) s rest h h
 token-meets (Closing b) s rest h = single-meets (Closing b) s rest h h
 
-piece-meets : (p : Piece) (rest : Text) → IsPiece p rest → piece_text (first_of (piece_text p ++ rest)) ≡ piece_text p → IsPiece (first_of (piece_text p ++ rest)) rest → p ≡ first_of (piece_text p ++ rest)
+piece-meets : (p : Piece) (rest : Text) → IsPiece p rest
+    → piece_text (first_of (piece_text p ++ rest)) ≡ piece_text p
+    → IsPiece (first_of (piece_text p ++ rest)) rest → p ≡ first_of (piece_text p ++ rest)
 piece-meets (comment s) rest h e k = comment-is s rest h e
 piece-meets (token token_type s) rest h e k = token-meets token_type s rest h e k
 
@@ -127,7 +173,8 @@ pub record OneFront (s t rest behind : Text) : Type 0 where
   pub front : s ≡ t
   pub left : rest ≡ behind
 
-one-front : (s t rest behind : Text) → s ++ rest ≡ t ++ behind → length s ≡ length t → OneFront s t rest behind
+one-front : (s t rest behind : Text) → s ++ rest ≡ t ++ behind → length s ≡ length t
+    → OneFront s t rest behind
 one-front [] [] rest behind e l = record { front = refl; left = e }
 one-front [] (d ∷ t) rest behind e l = absurd (omega (arith, l))
 one-front (c ∷ s) [] rest behind e l = absurd (omega (arith, l))
@@ -140,12 +187,16 @@ computed-first [] l = absurd (omega (arith, l))
 computed-first (c ∷ cs) l = pieces-first computed-numbers c cs
 
 -- a piece that stands in front, where no longer one does, is the one that is computed
-pub piece-is : (p : Piece) (rest : Text) → 1 ≤ length (piece_text p) → IsPiece p rest → IsLongest p rest → p ≡ first_of (piece_text p ++ rest)
+pub piece-is : (p : Piece) (rest : Text) → 1 ≤ length (piece_text p) → IsPiece p rest → IsLongest p rest
+    → p ≡ first_of (piece_text p ++ rest)
 piece-is p rest some h long =
     let cs : Text = piece_text p ++ rest in
     let size : length cs ≡ length (piece_text p) + length rest = length-append (piece_text p) rest in
     let first : IsFirst (first_of cs) cs = computed-first cs (omega (arith, some, size)) in
-    let a : length (piece_text (first_of cs)) ≤ length (piece_text p) = long (first_of cs) first.rest (sym first.joins) first.is in
+    let a : length (piece_text (first_of cs)) ≤ length (piece_text p) =
+    long (first_of cs) first.rest (sym first.joins) first.is in
     let b : length (piece_text p) ≤ length (piece_text (first_of cs)) = first.longest p rest refl h in
-    let same : OneFront (piece_text (first_of cs)) (piece_text p) first.rest rest = one-front (piece_text (first_of cs)) (piece_text p) first.rest rest first.joins (omega (arith, a, b)) in
+    let same : OneFront (piece_text (first_of cs)) (piece_text p) first.rest rest =
+    one-front (piece_text (first_of cs)) (piece_text p) first.rest rest first.joins
+    (omega (arith, a, b)) in
     piece-meets p rest h same.front (subst (IsPiece (first_of cs)) same.left first.is)

@@ -24,7 +24,8 @@ written-some s t e l = subst (λ xs. 1 ≤ length xs) (sym e) l
 number-some : (w : Numeral) (tail s : Text) → IsNumeral w → s ≡ numeral_text w ++ tail → 1 ≤ length s
 number-some w tail s h e =
     let some : 1 ≤ length (numeral_text w) = numeral-some w h in
-    let size : length s ≡ length (numeral_text w) + length tail = ap length e ∙ length-append (numeral_text w) tail in
+    let size : length s ≡ length (numeral_text w) + length tail = ap length e
+    ∙ length-append (numeral_text w) tail in
     omega (arith, some, size)
 
 two-some : (s : Text) → 2 ≤ length s → 1 ≤ length s
@@ -32,7 +33,8 @@ two-some s l = omega (arith, l)
 
 token-some : (token_type : TokenType) (s rest : Text) → Spells token_type s rest → 1 ≤ length s
 token-some (Ident name) s rest h = name-some name s rest h
-token-some (Function name) s rest h = two-some s (open-long name h.head s (codes "(" ++ rest) h.is_name h.spelling)
+token-some (Function name) s rest h =
+    two-some s (open-long name h.head s (codes "(" ++ rest) h.is_name h.spelling)
 token-some (AtKeyword name) s rest h = written-some s (codes "@" ++ h.0) h.1 (omega arith)
 token-some (Hash name is_id) s rest h = written-some s (codes "#" ++ h.0) h.1 (omega arith)
 token-some (String value) s rest h = written-some s _ h.spelling (omega arith)
@@ -59,27 +61,33 @@ piece-some (token token_type s) rest h = token-some token_type s rest h
 -- ---- the pieces
 
 -- the computed pieces of a text that begins with this piece
-pieces-at : (p : Piece) (rest cs : Text) → piece_text p ++ rest ≡ cs → 1 ≤ length (piece_text p) → p ≡ first_of cs → pieces cs ≡ p ∷ pieces rest
+pieces-at : (p : Piece) (rest cs : Text) → piece_text p ++ rest ≡ cs → 1 ≤ length (piece_text p)
+    → p ≡ first_of cs → pieces cs ≡ p ∷ pieces rest
 pieces-at p rest [] e l f =
     let none : length (piece_text p ++ rest) ≡ 0 = ap length e in
-    let size : length (piece_text p ++ rest) ≡ length (piece_text p) + length rest = length-append (piece_text p) rest in
+    let size : length (piece_text p ++ rest) ≡ length (piece_text p) + length rest =
+    length-append (piece_text p) rest in
     absurd (omega (arith, l, none, size))
 pieces-at p rest (c ∷ cs) e l f =
     pieces-cons c cs
-    ∙ (ap (λ q. q ∷ pieces (drop (pred (length (piece_text q))) cs)) (sym f) ∙ ap (λ xs. p ∷ pieces xs) (behind-first (piece_text p) rest c cs e l))
+    ∙ (ap (λ q. q ∷ pieces (drop (pred (length (piece_text q))) cs)) (sym f)
+    ∙ ap (λ xs. p ∷ pieces xs) (behind-first (piece_text p) rest c cs e l))
 
 pieces-are : (ps : List Piece) → ArePieces ps → ps ≡ pieces (pieces_text ps)
 pieces-are [] h = sym pieces-nil
 pieces-are (p ∷ ps) h =
     let rest : Text = pieces_text ps in
     let some : 1 ≤ length (piece_text p) = piece-some p rest h.0 in
-    ap (λ qs. p ∷ qs) (pieces-are ps h.2) ∙ sym (pieces-at p rest (piece_text p ++ rest) refl some (piece-is p rest some h.0 h.1))
+    ap (λ qs. p ∷ qs) (pieces-are ps h.2)
+    ∙ sym (pieces-at p rest (piece_text p ++ rest) refl some (piece-is p rest some h.0 h.1))
 
 -- ---- the law
 
 -- any token list of a text is the computed one
 pub token_list-is : (text : Text) (these : List Token) → IsTokenList text these → these ≡ tokens text
-token_list-is text these h = sym h.tokens_are ∙ ap (tokens_from 0) (pieces-are h.pieces h.are_pieces ∙ ap pieces h.joined)
+token_list-is text these h = sym h.tokens_are
+    ∙ ap (tokens_from 0) (pieces-are h.pieces h.are_pieces ∙ ap pieces h.joined)
 
-pub one-token_list : (text : Text) (these those : List Token) → IsTokenList text these → IsTokenList text those → these ≡ those
+pub one-token_list : (text : Text) (these those : List Token) → IsTokenList text these
+    → IsTokenList text those → these ≡ those
 one-token_list text these those h k = token_list-is text these h ∙ sym (token_list-is text those k)

@@ -50,7 +50,8 @@ PieceDemands (token token_type s) cs = Demands token_type s cs
 -- ---- names
 
 -- more parts leave an identifier one
-begins-more : (parts more : List Part) → would_start_ident parts ≡ true → would_start_ident (parts ++ more) ≡ true
+begins-more : (parts more : List Part) → would_start_ident parts ≡ true
+    → would_start_ident (parts ++ more) ≡ true
 begins-more [] more h = absurd (false≢true h)
 begins-more (p ∷ []) more h = elim (or-cases (starts_name p) (is_hyphen p && false) h) [
   | inl t ↦ or-left (starts_name p) (is_hyphen p && follows_hyphen more) t
@@ -65,33 +66,53 @@ name-demands name s rest h =
     ∙ begins-more h.parts (parts_in InName rest) h.identifier)
 
 -- of a name and what is between it and the rest
-head-demands : (name head mark rest s : Text) → s ≡ head ++ mark → IsName name true head (mark ++ rest) → begins_name (s ++ rest) ≡ true
-head-demands name head mark rest s e h = ap begins_name (ap (λ xs. xs ++ rest) e ∙ append_assoc head mark rest) ∙ name-demands name head (mark ++ rest) h
+head-demands : (name head mark rest s : Text) → s ≡ head ++ mark → IsName name true head (mark ++ rest)
+    → begins_name (s ++ rest) ≡ true
+head-demands name head mark rest s e h =
+    ap begins_name (ap (λ xs. xs ++ rest) e ∙ append_assoc head mark rest)
+    ∙ name-demands name head (mark ++ rest) h
 
-url_head-demands : (s tail rest head : Text) → s ≡ head ++ tail → IsUrlHead head (tail ++ rest) → begins_name (s ++ rest) ≡ true
+url_head-demands : (s tail rest head : Text) → s ≡ head ++ tail → IsUrlHead head (tail ++ rest)
+    → begins_name (s ++ rest) ≡ true
 url_head-demands s tail rest head e h =
-    ap begins_name (ap (λ xs. xs ++ rest) e ∙ append_assoc head tail rest) ∙ head-demands h.name h.head (codes "(") (tail ++ rest) head h.spelling h.is_name
+    ap begins_name (ap (λ xs. xs ++ rest) e ∙ append_assoc head tail rest)
+    ∙ head-demands h.name h.head (codes "(") (tail ++ rest) head h.spelling h.is_name
 
 -- ---- all classes
 
-white-demands : (s rest : Text) → list_all is_whitespace s ≡ true → is_empty s ≡ false → begins is_whitespace (s ++ rest) ≡ true
+white-demands : (s rest : Text) → list_all is_whitespace s ≡ true → is_empty s ≡ false
+    → begins is_whitespace (s ++ rest) ≡ true
 white-demands [] rest a e = absurd (true≢false e)
 white-demands (c ∷ s) rest a e = and-left (is_whitespace c) (list_all is_whitespace s) a
 
-pub demands : (token_type : TokenType) (s rest : Text) → IsPiece (token token_type s) rest → Demands token_type s (s ++ rest)
+pub demands : (token_type : TokenType) (s rest : Text) → IsPiece (token token_type s) rest
+    → Demands token_type s (s ++ rest)
 demands (Ident name) s rest h = name-demands name s rest h
 demands (Function name) s rest h = head-demands name h.head (codes "(") rest s h.spelling h.is_name
 demands (AtKeyword name) s rest h = ap (λ xs. begins (λ c. c == 64) (xs ++ rest)) h.1
 demands (Hash name is_id) s rest h = ap (λ xs. begins (λ c. c == 35) (xs ++ rest)) h.1
 demands (String value) s rest h = ap (λ xs. begins is_quote (xs ++ rest)) h.spelling ∙ h.is_quoted
 demands BadString s rest h = ap (λ xs. begins is_quote (xs ++ rest)) h.spelling ∙ h.is_quoted
-demands (Url value) s rest h = url_head-demands s (h.before ++ (parts_text h.parts ++ (h.after ++ h.end))) rest h.head h.spelling
-    (subst (IsUrlHead h.head) (sym (append_assoc h.before (parts_text h.parts ++ (h.after ++ h.end)) rest ∙ ap (λ xs. h.before ++ xs) (append_assoc (parts_text h.parts) (h.after ++ h.end) rest ∙ ap (λ xs. parts_text h.parts ++ xs) (append_assoc h.after h.end rest)))) h.is_head)
-demands BadUrl s rest h = url_head-demands s (parts_text h.parts ++ h.end) rest h.head h.spelling (subst (IsUrlHead h.head) (sym (append_assoc (parts_text h.parts) h.end rest)) h.is_head)
+demands (Url value) s rest h =
+    url_head-demands s (h.before ++ (parts_text h.parts ++ (h.after ++ h.end))) rest h.head h.spelling
+    (subst (IsUrlHead h.head)
+    (sym (append_assoc h.before (parts_text h.parts ++ (h.after ++ h.end)) rest
+    ∙ ap (λ xs. h.before ++ xs)
+    (append_assoc (parts_text h.parts) (h.after ++ h.end) rest
+    ∙ ap (λ xs. parts_text h.parts ++ xs) (append_assoc h.after h.end rest)))) h.is_head)
+demands BadUrl s rest h =
+    url_head-demands s (parts_text h.parts ++ h.end) rest h.head h.spelling
+    (subst (IsUrlHead h.head) (sym (append_assoc (parts_text h.parts) h.end rest)) h.is_head)
 demands (Delim c) s rest h = ap length h.spelling
-demands (Number n) s rest h = ap (λ xs. would_start_number (xs ++ rest)) h.spelling ∙ (ap would_start_number (append_assoc (numeral_text h.numeral) [] rest) ∙ numeral-begins h.numeral ([] ++ rest) h.is_numeral)
-demands (Percentage n) s rest h = ap (λ xs. would_start_number (xs ++ rest)) h.spelling ∙ (ap would_start_number (append_assoc (numeral_text h.numeral) (codes "%") rest) ∙ numeral-begins h.numeral (codes "%" ++ rest) h.is_numeral)
-demands (Dimension n unit) s rest h = ap (λ xs. would_start_number (xs ++ rest)) h.spelling ∙ (ap would_start_number (append_assoc (numeral_text h.numeral) h.tail rest) ∙ numeral-begins h.numeral (h.tail ++ rest) h.is_numeral)
+demands (Number n) s rest h = ap (λ xs. would_start_number (xs ++ rest)) h.spelling
+    ∙ (ap would_start_number (append_assoc (numeral_text h.numeral) [] rest)
+    ∙ numeral-begins h.numeral ([] ++ rest) h.is_numeral)
+demands (Percentage n) s rest h = ap (λ xs. would_start_number (xs ++ rest)) h.spelling
+    ∙ (ap would_start_number (append_assoc (numeral_text h.numeral) (codes "%") rest)
+    ∙ numeral-begins h.numeral (codes "%" ++ rest) h.is_numeral)
+demands (Dimension n unit) s rest h = ap (λ xs. would_start_number (xs ++ rest)) h.spelling
+    ∙ (ap would_start_number (append_assoc (numeral_text h.numeral) h.tail rest)
+    ∙ numeral-begins h.numeral (h.tail ++ rest) h.is_numeral)
 demands Whitespace s rest h = white-demands s rest h.0 h.1
 demands Cdo s rest h = ap (λ xs. has_front (codes "<!--") (xs ++ rest)) h
 demands Cdc s rest h = ap (λ xs. has_front (codes "-->") (xs ++ rest)) h

@@ -13,16 +13,20 @@ use Rattle.css_model.specs.inner.Nesting.{is_function, bracketed, innermost, Lev
 
 -- ---- one token in front
 
-pub levels-opening : (heads : List Token) (t : Token) (ts : List Token) → is_some (opened_by t.token_type) ≡ true → levels_of heads (t ∷ ts) ≡ enclosed t (levels_of (t ∷ heads) ts)
+pub levels-opening : (heads : List Token) (t : Token) (ts : List Token)
+    → is_some (opened_by t.token_type) ≡ true
+    → levels_of heads (t ∷ ts) ≡ enclosed t (levels_of (t ∷ heads) ts)
 unfolding levels_of
 levels-opening heads t ts e = rw e refl
 
-pub levels-closing : (heads : List Token) (t : Token) (ts : List Token) → is_some (opened_by t.token_type) ≡ false → closes (innermost heads) t.token_type ≡ true
+pub levels-closing : (heads : List Token) (t : Token) (ts : List Token)
+    → is_some (opened_by t.token_type) ≡ false → closes (innermost heads) t.token_type ≡ true
     → levels_of heads (t ∷ ts) ≡ closed t (levels_of (drop 1 heads) ts)
 unfolding levels_of
 levels-closing heads t ts e c = rw (e, c) refl
 
-pub levels-alone : (heads : List Token) (t : Token) (ts : List Token) → is_some (opened_by t.token_type) ≡ false → closes (innermost heads) t.token_type ≡ false
+pub levels-alone : (heads : List Token) (t : Token) (ts : List Token)
+    → is_some (opened_by t.token_type) ≡ false → closes (innermost heads) t.token_type ≡ false
     → levels_of heads (t ∷ ts) ≡ alone t (levels_of heads ts)
 unfolding levels_of
 levels-alone heads t ts e c = rw (e, c) refl
@@ -67,7 +71,8 @@ alone-tokens t (levels contents outside) = refl
 closed-tokens : (t : Token) (l : Levels) → tokens_in (closed t l) ≡ t ∷ tokens_in l
 closed-tokens t (levels contents outside) = refl
 
-bracketed-tokens : (head : Token) (contents : Components) (close : Option Token) → tokens_of (bracketed head contents close) ≡ head ∷ (all_tokens_of contents ++ close_tokens close)
+bracketed-tokens : (head : Token) (contents : Components) (close : Option Token)
+    → tokens_of (bracketed head contents close) ≡ head ∷ (all_tokens_of contents ++ close_tokens close)
 bracketed-tokens head contents close = elim (cases_Bool (is_function head.token_type)) [
   | inl t ↦ rw t refl
   | inr f ↦ rw f refl
@@ -76,69 +81,108 @@ bracketed-tokens head contents close = elim (cases_Bool (is_function head.token_
 enclosed-tokens : (head : Token) (l : Levels) → tokens_in (enclosed head l) ≡ head ∷ tokens_in l
 enclosed-tokens head (levels contents []) =
     let inside : List Token = all_tokens_of contents ++ [] in
-    rw (bracketed-tokens head contents None) (append-nil ((head ∷ inside) ++ []) ∙ append-nil (head ∷ inside))
-enclosed-tokens head (levels contents (level ∷ outside)) = rw (bracketed-tokens head contents (Some level.0)) (simp append_assoc refl)
+    rw (bracketed-tokens head contents None)
+    (append-nil ((head ∷ inside) ++ []) ∙ append-nil (head ∷ inside))
+enclosed-tokens head (levels contents (level ∷ outside)) =
+    rw (bracketed-tokens head contents (Some level.0)) (simp append_assoc refl)
 
 levels-joined : (heads ts : List Token) → tokens_in (levels_of heads ts) ≡ ts
 levels-joined heads [] = rw (levels-end heads) refl
 levels-joined heads (t ∷ ts) = elim (cases_Bool (is_some (opened_by t.token_type))) [
-  | inl o ↦ rw (levels-opening heads t ts o, enclosed-tokens) (ap (λ xs. t ∷ xs) (levels-joined (t ∷ heads) ts))
+  | inl o ↦ rw (levels-opening heads t ts o, enclosed-tokens)
+      (ap (λ xs. t ∷ xs) (levels-joined (t ∷ heads) ts))
   | inr o ↦ elim (cases_Bool (closes (innermost heads) t.token_type)) [
-    | inl c ↦ rw (levels-closing heads t ts o c, closed-tokens) (ap (λ xs. t ∷ xs) (levels-joined (drop 1 heads) ts))
+    | inl c ↦ rw (levels-closing heads t ts o c, closed-tokens)
+        (ap (λ xs. t ∷ xs) (levels-joined (drop 1 heads) ts))
     | inr c ↦ rw (levels-alone heads t ts o c, alone-tokens) (ap (λ xs. t ∷ xs) (levels-joined heads ts))
   ]
 ]
 
 -- ---- the nesting of levels
 
--- each of these closes its bracket, and is followed by what is nested rightly in the bracket around that
+-- each of these closes its bracket, and is followed by what is nested rightly in the bracket around
+-- that
 abbrev OutsideNested : List Token → List (Token × Components) → Type 0
 OutsideNested heads [] = Unit {0}
 OutsideNested [] (level ∷ outside) = ⊥
 OutsideNested (head ∷ heads) (level ∷ outside) =
-    (closes (opened_by head.token_type) level.0.token_type ≡ true) × AreNested (innermost heads) level.1 (outside_tokens outside) × OutsideNested heads outside
+    (closes (opened_by head.token_type) level.0.token_type ≡ true)
+    × AreNested (innermost heads) level.1 (outside_tokens outside) × OutsideNested heads outside
 
 abbrev LevelsNested : List Token → Levels → Type 0
-LevelsNested heads (levels contents outside) = AreNested (innermost heads) contents (outside_tokens outside) × OutsideNested heads outside
+LevelsNested heads (levels contents outside) =
+    AreNested (innermost heads) contents (outside_tokens outside) × OutsideNested heads outside
 
-pub bracketed-function_block : (head : Token) (contents : Components) (close : Option Token) (name : Text) → head.token_type ≡ Function name → bracketed head contents close ≡ function_block head contents close
+pub bracketed-function_block : (head : Token) (contents : Components) (close : Option Token) (name : Text)
+    → head.token_type ≡ Function name → bracketed head contents close ≡ function_block head contents close
 bracketed-function_block head contents close name e =
     let is : is_function head.token_type ≡ true = rw e refl in
     rw is refl
 
-pub bracketed-simple_block : (head : Token) (contents : Components) (close : Option Token) (b : Bracket) → head.token_type ≡ Opening b → bracketed head contents close ≡ simple_block head contents close
+pub bracketed-simple_block : (head : Token) (contents : Components) (close : Option Token) (b : Bracket)
+    → head.token_type ≡ Opening b → bracketed head contents close ≡ simple_block head contents close
 bracketed-simple_block head contents close b e =
     let is : is_function head.token_type ≡ false = rw e refl in
     rw is refl
 
-bracketed-type : (around : Option Bracket) (head : Token) (contents : Components) (close : Option Token) (behind : List Token) (b : Bracket) (k : TokenType) → head.token_type ≡ k → opened_by k ≡ Some b
-    → AreNested (Some b) contents (close_tokens close ++ behind) → IsClosed b close behind → IsNested around (bracketed head contents close) behind
+bracketed-type : (around : Option Bracket) (head : Token) (contents : Components) (close : Option
+    Token) (behind : List Token) (b : Bracket) (k : TokenType) → head.token_type ≡ k → opened_by k ≡ Some b
+    → AreNested (Some b) contents (close_tokens close ++ behind) → IsClosed b close behind
+    → IsNested around (bracketed head contents close) behind
 bracketed-type around head contents close behind b (Function name) e o n c =
     let is : Round ≡ b = cc in
-    rw (bracketed-function_block head contents close name e) (name, e, subst (λ (d : Bracket). AreNested (Some d) contents (close_tokens close ++ behind)) (sym is) n, subst (λ (d : Bracket). IsClosed d close behind) (sym is) c)
+    rw (bracketed-function_block head contents close name e) (
+      name,
+      e,
+      subst (λ (d : Bracket). AreNested (Some d) contents (close_tokens close ++ behind))
+          (sym is) n,
+      subst (λ (d : Bracket). IsClosed d close behind) (sym is) c,
+    )
 bracketed-type around head contents close behind b (Opening d) e o n c =
     let is : d ≡ b = cc in
     rw (bracketed-simple_block head contents close d e) (b, e ∙ ap Opening is, n, c)
 bracketed-type around head contents close behind b other e o n c = cc
 
-bracketed-nested : (around : Option Bracket) (head : Token) (contents : Components) (close : Option Token) (behind : List Token) (b : Bracket) → opened_by head.token_type ≡ Some b
-    → AreNested (Some b) contents (close_tokens close ++ behind) → IsClosed b close behind → IsNested around (bracketed head contents close) behind
-bracketed-nested around head contents close behind b o n c = bracketed-type around head contents close behind b head.token_type refl o n c
+bracketed-nested : (around : Option Bracket) (head : Token) (contents : Components) (close : Option
+    Token) (behind : List Token) (b : Bracket) → opened_by head.token_type ≡ Some b
+    → AreNested (Some b) contents (close_tokens close ++ behind) → IsClosed b close behind
+    → IsNested around (bracketed head contents close) behind
+bracketed-nested around head contents close behind b o n c =
+    bracketed-type around head contents close behind b head.token_type refl o n c
 
-alone-nested : (heads : List Token) (t : Token) (l : Levels) → opened_by t.token_type ≡ None → closes (innermost heads) t.token_type ≡ false → LevelsNested heads l → LevelsNested heads (alone t l)
+alone-nested : (heads : List Token) (t : Token) (l : Levels) → opened_by t.token_type ≡ None
+    → closes (innermost heads) t.token_type ≡ false → LevelsNested heads l → LevelsNested heads (alone t l)
 alone-nested heads t (levels contents outside) o c n = (((o, c), n.0), n.1)
 
-closed-nested : (heads : List Token) (t : Token) (l : Levels) → closes (innermost heads) t.token_type ≡ true → LevelsNested (drop 1 heads) l → LevelsNested heads (closed t l)
+closed-nested : (heads : List Token) (t : Token) (l : Levels) → closes (innermost heads) t.token_type ≡ true
+    → LevelsNested (drop 1 heads) l → LevelsNested heads (closed t l)
 closed-nested [] t (levels contents outside) c n = cc
 closed-nested (head ∷ heads) t (levels contents outside) c n = (tt, (c, n.0, n.1))
 
-enclosed-nested : (heads : List Token) (head : Token) (l : Levels) (b : Bracket) → opened_by head.token_type ≡ Some b → LevelsNested (head ∷ heads) l → LevelsNested heads (enclosed head l)
-enclosed-nested heads head (levels contents []) b o n =
-    ((bracketed-nested (innermost heads) head contents None [] b o (subst (λ (a : Option Bracket). AreNested a contents []) o n.0) refl, tt), tt)
+enclosed-nested : (heads : List Token) (head : Token) (l : Levels) (b : Bracket)
+    → opened_by head.token_type ≡ Some b → LevelsNested (head ∷ heads) l
+    → LevelsNested heads (enclosed head l)
+enclosed-nested heads head (levels contents []) b o n = (
+  (
+    bracketed-nested (innermost heads) head contents None [] b o
+        (subst (λ (a : Option Bracket). AreNested a contents []) o n.0) refl,
+    tt,
+  ),
+  tt,
+)
 enclosed-nested heads head (levels contents (level ∷ outside)) b o n =
-    let inside = subst (λ (a : Option Bracket). AreNested a contents (level.0 ∷ (all_tokens_of level.1 ++ outside_tokens outside))) o n.0 in
-    let close : level.0.token_type ≡ Closing b = closes-is b level.0.token_type (ap (λ a. closes a level.0.token_type) (sym o) ∙ n.1.0) in
-    ((bracketed-nested (innermost heads) head contents (Some level.0) (all_tokens_of level.1 ++ outside_tokens outside) b o inside close, n.1.1), n.1.2)
+    let inside = subst
+    (λ (a : Option Bracket). AreNested a contents
+    (level.0 ∷ (all_tokens_of level.1 ++ outside_tokens outside))) o n.0 in
+    let close : level.0.token_type ≡ Closing b =
+    closes-is b level.0.token_type (ap (λ a. closes a level.0.token_type) (sym o) ∙ n.1.0) in (
+      (
+        bracketed-nested (innermost heads) head contents (Some level.0)
+            (all_tokens_of level.1 ++ outside_tokens outside) b o inside close,
+        n.1.1,
+      ),
+      n.1.2,
+    )
 
 some-of : (o : Option Bracket) → is_some o ≡ true → (b : Bracket) × (o ≡ Some b)
 some-of None e = cc
@@ -148,14 +192,19 @@ levels-nested : (heads ts : List Token) → LevelsNested heads (levels_of heads 
 levels-nested heads [] = rw (levels-end heads) (tt, tt)
 levels-nested heads (t ∷ ts) = elim (cases_Bool (is_some (opened_by t.token_type))) [
   | inl o ↦ let b = some-of (opened_by t.token_type) o in
-      rw (levels-opening heads t ts o) (enclosed-nested heads t (levels_of (t ∷ heads) ts) b.0 b.1 (levels-nested (t ∷ heads) ts))
+      rw (levels-opening heads t ts o)
+      (enclosed-nested heads t (levels_of (t ∷ heads) ts) b.0 b.1 (levels-nested (t ∷ heads) ts))
   | inr o ↦ elim (cases_Bool (closes (innermost heads) t.token_type)) [
-    | inl c ↦ rw (levels-closing heads t ts o c) (closed-nested heads t (levels_of (drop 1 heads) ts) c (levels-nested (drop 1 heads) ts))
-    | inr c ↦ rw (levels-alone heads t ts o c) (alone-nested heads t (levels_of heads ts) (none-of (opened_by t.token_type) o) c (levels-nested heads ts))
+    | inl c ↦ rw (levels-closing heads t ts o c)
+        (closed-nested heads t (levels_of (drop 1 heads) ts) c (levels-nested (drop 1 heads) ts))
+    | inr c ↦ rw (levels-alone heads t ts o c)
+        (alone-nested heads t (levels_of heads ts) (none-of (opened_by t.token_type) o) c
+        (levels-nested heads ts))
   ]
 ]
 
-nested-contents : (l : Levels) → LevelsNested [] l → (tokens_in l ≡ all_tokens_of (contents_of l)) × AreNested None (contents_of l) []
+nested-contents : (l : Levels) → LevelsNested [] l
+    → (tokens_in l ≡ all_tokens_of (contents_of l)) × AreNested None (contents_of l) []
 nested-contents (levels contents []) n = (append-nil (all_tokens_of contents), n.0)
 nested-contents (levels contents (level ∷ outside)) n = absurd n.1
 
@@ -177,8 +226,12 @@ onto-nothing (levels contents outside) = refl
 pub alone-onto : (t : Token) (l : Levels) → alone t l ≡ onto (component (preserved t) no_components) l
 alone-onto t (levels contents outside) = refl
 
-pub enclosed-closed : (head t : Token) (contents : Components) (l : Levels) → enclosed head (onto contents (closed t l)) ≡ onto (component (bracketed head contents (Some t)) no_components) l
+pub enclosed-closed : (head t : Token) (contents : Components) (l : Levels)
+    → enclosed head (onto contents (closed t l))
+    ≡ onto (component (bracketed head contents (Some t)) no_components) l
 enclosed-closed head t contents (levels behind outside) = rw (followed-nothing contents) refl
 
-pub enclosed-end : (head : Token) (contents : Components) → enclosed head (onto contents (levels no_components [])) ≡ onto (component (bracketed head contents None) no_components) (levels no_components [])
+pub enclosed-end : (head : Token) (contents : Components)
+    → enclosed head (onto contents (levels no_components []))
+    ≡ onto (component (bracketed head contents None) no_components) (levels no_components [])
 enclosed-end head contents = rw (followed-nothing contents) refl

@@ -18,7 +18,8 @@ part_of [] = escape_at_end
 part_of (c ∷ cs) = part_in c cs
 
 -- hex digits that are as many as may be, or that end, are those in front
-hex_digits_in-is : (n : ℕ) (digits tail : Text) → list_all is_hex_digit digits ≡ true → length digits ≤ n → (length digits ≡ n) ⊎ (begins is_hex_digit tail ≡ false) → hex_digits_in n (digits ++ tail) ≡ digits
+hex_digits_in-is : (n : ℕ) (digits tail : Text) → list_all is_hex_digit digits ≡ true → length digits ≤ n
+    → (length digits ≡ n) ⊎ (begins is_hex_digit tail ≡ false) → hex_digits_in n (digits ++ tail) ≡ digits
 hex_digits_in-is zero [] tail a l e = refl
 hex_digits_in-is zero (d ∷ ds) tail a l e = absurd (omega (arith, l))
 hex_digits_in-is (suc n) [] [] a l e = refl
@@ -26,11 +27,19 @@ hex_digits_in-is (suc n) [] (c ∷ cs) a l (inl full) = absurd (omega (arith, fu
 hex_digits_in-is (suc n) [] (c ∷ cs) a l (inr ends) = rw ends refl
 hex_digits_in-is (suc n) (d ∷ ds) tail a l e =
     let here : is_hex_digit d ≡ true = and-left (is_hex_digit d) (list_all is_hex_digit ds) a in
-    let over : (length ds ≡ n) ⊎ (begins is_hex_digit tail ≡ false) = elim e [ inl full ↦ inl (omega (arith, full)) | inr ends ↦ inr ends ] in
-    rw here (ap (λ cs. d ∷ cs) (hex_digits_in-is n ds tail (and-right (is_hex_digit d) (list_all is_hex_digit ds) a) (omega (arith, l)) over))
+    let over : (length ds ≡ n) ⊎ (begins is_hex_digit tail ≡ false) =
+    elim e [ inl full ↦ inl (omega (arith, full)) | inr ends ↦ inr ends ] in
+    rw here (ap (λ cs. d ∷ cs)
+    (hex_digits_in-is n ds tail (and-right (is_hex_digit d) (list_all is_hex_digit ds) a)
+    (omega (arith, l)) over))
 
 hex-no_newline : (d : ℕ) → is_hex_digit d ≡ true → is_newline d ≡ false
-hex-no_newline d h = elim (cases_Bool (is_newline d)) [ inl t ↦ absurd (false≢true (subst (λ x. is_hex_digit x ≡ true) (eqb-true d 10 t) h)) | inr f ↦ f ]
+hex-no_newline d h =
+    elim (cases_Bool (is_newline d)) [
+      | inl t ↦
+          absurd (false≢true (subst (λ x. is_hex_digit x ≡ true) (eqb-true d 10 t) h))
+      | inr f ↦ f
+    ]
 
 white-no_hex : (c : ℕ) → is_whitespace c ≡ true → is_hex_digit c ≡ false
 white-no_hex c h = elim (or-cases (is_newline c) ((c == 9) || (c == 32)) h) [
@@ -46,41 +55,60 @@ one_in-none test [] f = refl
 one_in-none test (c ∷ cs) f = rw f refl
 
 -- the whitespace behind a code
-blank-is : (digits blank behind : Text) → is_at_most_one is_whitespace blank ≡ true → is_hex_escape_over digits blank behind ≡ true → one_in is_whitespace (blank ++ behind) ≡ blank
-blank-is digits [] behind b o = one_in-none is_whitespace behind (not-true (begins is_whitespace behind) (and-left (not (begins is_whitespace behind)) ((length digits == 6) || not (begins is_hex_digit behind)) o))
+blank-is : (digits blank behind : Text) → is_at_most_one is_whitespace blank ≡ true
+    → is_hex_escape_over digits blank behind ≡ true → one_in is_whitespace (blank ++ behind) ≡ blank
+blank-is digits [] behind b o =
+    one_in-none is_whitespace behind
+    (not-true (begins is_whitespace behind)
+    (and-left (not (begins is_whitespace behind))
+    ((length digits == 6) || not (begins is_hex_digit behind)) o))
 blank-is digits (c ∷ []) behind b o = rw (and-left (is_whitespace c) true b) refl
 blank-is digits (c ∷ d ∷ ds) behind b o = absurd (false≢true (and-right (is_whitespace c) false b))
 
 -- the digits of a code end
-digits-over : (digits blank behind : Text) → is_at_most_one is_whitespace blank ≡ true → is_hex_escape_over digits blank behind ≡ true → (length digits ≡ 6) ⊎ (begins is_hex_digit (blank ++ behind) ≡ false)
+digits-over : (digits blank behind : Text) → is_at_most_one is_whitespace blank ≡ true
+    → is_hex_escape_over digits blank behind ≡ true
+    → (length digits ≡ 6) ⊎ (begins is_hex_digit (blank ++ behind) ≡ false)
 digits-over digits [] behind b o =
-    elim (or-cases (length digits == 6) (not (begins is_hex_digit behind)) (and-right (not (begins is_whitespace behind)) ((length digits == 6) || not (begins is_hex_digit behind)) o)) [
+    elim (or-cases (length digits == 6) (not (begins is_hex_digit behind))
+    (and-right (not (begins is_whitespace behind))
+    ((length digits == 6) || not (begins is_hex_digit behind)) o)) [
       | inl full ↦ inl (eqb-true (length digits) 6 full)
       | inr ends ↦ inr (not-true (begins is_hex_digit behind) ends)
     ]
 digits-over digits (c ∷ cs) behind b o = inr (white-no_hex c (and-left (is_whitespace c) (is_empty cs) b))
 
-hex_escape_in-is : (digits blank behind : Text) → IsPart (hex_escape digits blank) behind → hex_escape_in (digits ++ (blank ++ behind)) ≡ hex_escape digits blank
+hex_escape_in-is : (digits blank behind : Text) → IsPart (hex_escape digits blank) behind
+    → hex_escape_in (digits ++ (blank ++ behind)) ≡ hex_escape digits blank
 hex_escape_in-is digits blank behind h =
     let cs : Text = digits ++ (blank ++ behind) in
-    let front : hex_digits_in 6 cs ≡ digits = hex_digits_in-is 6 digits (blank ++ behind) h.are_digits h.few (digits-over digits blank behind h.is_blank h.over) in
-    let rest : drop (length (hex_digits_in 6 cs)) cs ≡ blank ++ behind = ap (λ ds. drop (length ds) cs) front ∙ drop-append_seam digits (blank ++ behind) in
-    let white : one_in is_whitespace (drop (length (hex_digits_in 6 cs)) cs) ≡ blank = ap (one_in is_whitespace) rest ∙ blank-is digits blank behind h.is_blank h.over in
-    ap (λ ds. hex_escape ds (one_in is_whitespace (drop (length (hex_digits_in 6 cs)) cs))) front ∙ ap (hex_escape digits) white
+    let front : hex_digits_in 6 cs ≡ digits =
+    hex_digits_in-is 6 digits (blank ++ behind) h.are_digits h.few
+    (digits-over digits blank behind h.is_blank h.over) in
+    let rest : drop (length (hex_digits_in 6 cs)) cs ≡ blank ++ behind =
+    ap (λ ds. drop (length ds) cs) front ∙ drop-append_seam digits (blank ++ behind) in
+    let white : one_in is_whitespace (drop (length (hex_digits_in 6 cs)) cs) ≡ blank =
+    ap (one_in is_whitespace) rest ∙ blank-is digits blank behind h.is_blank h.over in
+    ap (λ ds. hex_escape ds (one_in is_whitespace (drop (length (hex_digits_in 6 cs)) cs))) front
+    ∙ ap (hex_escape digits) white
 
 escape_in-code : (d : ℕ) (cs : Text) → is_hex_digit d ≡ true → escape_in (d ∷ cs) ≡ hex_escape_in (d ∷ cs)
 escape_in-code d cs h =
-    pick-false (is_newline d) escaped_newline (if is_hex_digit d then hex_escape_in (d ∷ cs) else escaped d) (hex-no_newline d h)
+    pick-false (is_newline d) escaped_newline (if is_hex_digit d then hex_escape_in (d ∷ cs) else escaped d)
+    (hex-no_newline d h)
     ∙ pick-true (is_hex_digit d) (hex_escape_in (d ∷ cs)) (escaped d) h
 
 -- a part of the definition is the one that the text begins with
 pub part_of-is : (p : Part) (behind : Text) → IsPart p behind → part_of (part_text p ++ behind) ≡ p
 part_of-is (itself c) behind h = rw h refl
 part_of-is (escaped c) behind h = rw h.1 (rw h.0 refl)
-part_of-is (hex_escape [] blank) behind h = let some : 1 ≤ length {A = ℕ} [] = h.some in absurd (omega (arith, some))
+part_of-is (hex_escape [] blank) behind h = let some : 1 ≤ length {A = ℕ} [] = h.some in
+    absurd (omega (arith, some))
 part_of-is (hex_escape (d ∷ ds) blank) behind h =
     let here : is_hex_digit d ≡ true = and-left (is_hex_digit d) (list_all is_hex_digit ds) h.are_digits in
-    escape_in-code d ((ds ++ blank) ++ behind) here ∙ (ap (λ cs. hex_escape_in (d ∷ cs)) (append_assoc ds blank behind) ∙ hex_escape_in-is (d ∷ ds) blank behind h)
+    escape_in-code d ((ds ++ blank) ++ behind) here
+    ∙ (ap (λ cs. hex_escape_in (d ∷ cs)) (append_assoc ds blank behind)
+    ∙ hex_escape_in-is (d ∷ ds) blank behind h)
 part_of-is escaped_newline behind h = refl
 part_of-is escape_at_end behind h = subst (λ cs. part_of (backslash ∷ cs) ≡ escape_at_end) (sym h) refl
 
@@ -98,32 +126,50 @@ unfolding parts_after
 parts_in-nil place = refl
 
 -- the first part, and those behind it
-pub parts_in-cons : (place : Place) (c : ℕ) (cs : Text) → may_stand place (part_in c cs) ≡ true → parts_in place (c ∷ cs) ≡ part_in c cs ∷ parts_in place (drop (pred (length (part_text (part_in c cs)))) cs)
+pub parts_in-cons : (place : Place) (c : ℕ) (cs : Text) → may_stand place (part_in c cs) ≡ true
+    → parts_in place (c ∷ cs)
+    ≡ part_in c cs ∷ parts_in place (drop (pred (length (part_text (part_in c cs)))) cs)
 unfolding parts_after
-parts_in-cons place c cs a = rw a (ap (λ ps. part_in c cs ∷ ps) (parts_after-drop place (pred (length (part_text (part_in c cs)))) cs))
+parts_in-cons place c cs a =
+    rw a (ap (λ ps. part_in c cs ∷ ps)
+    (parts_after-drop place (pred (length (part_text (part_in c cs)))) cs))
 
-pub parts_in-stop : (place : Place) (c : ℕ) (cs : Text) → may_stand place (part_in c cs) ≡ false → parts_in place (c ∷ cs) ≡ []
+pub parts_in-stop : (place : Place) (c : ℕ) (cs : Text) → may_stand place (part_in c cs) ≡ false
+    → parts_in place (c ∷ cs) ≡ []
 unfolding parts_after
 parts_in-stop place c cs a = rw a refl
 
 -- the same, of a part of the definition
-parts_in-front : (place : Place) (p : Part) (c : ℕ) (cs rest : Text) → part_text p ++ rest ≡ c ∷ cs → part_in c cs ≡ p → may_stand place p ≡ true → drop (pred (length (part_text p))) cs ≡ rest → parts_in place (c ∷ cs) ≡ p ∷ parts_in place rest
+parts_in-front : (place : Place) (p : Part) (c : ℕ) (cs rest : Text) → part_text p ++ rest ≡ c ∷ cs
+    → part_in c cs ≡ p → may_stand place p ≡ true → drop (pred (length (part_text p))) cs ≡ rest
+    → parts_in place (c ∷ cs) ≡ p ∷ parts_in place rest
 parts_in-front place p c cs rest front is a behind =
-    parts_in-cons place c cs (ap (may_stand place) is ∙ a) ∙ (ap (λ q. q ∷ parts_in place (drop (pred (length (part_text q))) cs)) is ∙ ap (λ xs. p ∷ parts_in place xs) behind)
+    parts_in-cons place c cs (ap (may_stand place) is ∙ a)
+    ∙ (ap (λ q. q ∷ parts_in place (drop (pred (length (part_text q))) cs)) is
+    ∙ ap (λ xs. p ∷ parts_in place xs) behind)
 
-parts_in-part : (place : Place) (p : Part) (rest : Text) → may_stand place p ≡ true → IsPart p rest → parts_in place (part_text p ++ rest) ≡ p ∷ parts_in place rest
-parts_in-part place (itself c) rest a h = parts_in-front place (itself c) c rest rest refl (part_of-is (itself c) rest h) a refl
-parts_in-part place (escaped c) rest a h = parts_in-front place (escaped c) backslash (c ∷ rest) rest refl (part_of-is (escaped c) rest h) a refl
-parts_in-part place (hex_escape digits blank) rest a h = parts_in-front place (hex_escape digits blank) backslash ((digits ++ blank) ++ rest) rest refl (part_of-is (hex_escape digits blank) rest h) a (drop-append_seam (digits ++ blank) rest)
-parts_in-part place escaped_newline rest a h = parts_in-front place escaped_newline backslash (10 ∷ rest) rest refl refl a refl
-parts_in-part place escape_at_end rest a h = parts_in-front place escape_at_end backslash rest rest refl (part_of-is escape_at_end rest h) a refl
+parts_in-part : (place : Place) (p : Part) (rest : Text) → may_stand place p ≡ true → IsPart p rest
+    → parts_in place (part_text p ++ rest) ≡ p ∷ parts_in place rest
+parts_in-part place (itself c) rest a h =
+    parts_in-front place (itself c) c rest rest refl (part_of-is (itself c) rest h) a refl
+parts_in-part place (escaped c) rest a h =
+    parts_in-front place (escaped c) backslash (c ∷ rest) rest refl (part_of-is (escaped c) rest h) a refl
+parts_in-part place (hex_escape digits blank) rest a h =
+    parts_in-front place (hex_escape digits blank) backslash ((digits ++ blank) ++ rest) rest refl
+    (part_of-is (hex_escape digits blank) rest h) a (drop-append_seam (digits ++ blank) rest)
+parts_in-part place escaped_newline rest a h =
+    parts_in-front place escaped_newline backslash (10 ∷ rest) rest refl refl a refl
+parts_in-part place escape_at_end rest a h =
+    parts_in-front place escape_at_end backslash rest rest refl (part_of-is escape_at_end rest h) a refl
 
 -- parts of the definition stand in front, and then those of what is behind them
-pub parts_in-are : (place : Place) (parts : List Part) (behind : Text) → AreParts place parts behind → parts_in place (parts_text parts ++ behind) ≡ parts ++ parts_in place behind
+pub parts_in-are : (place : Place) (parts : List Part) (behind : Text) → AreParts place parts behind
+    → parts_in place (parts_text parts ++ behind) ≡ parts ++ parts_in place behind
 parts_in-are place [] behind h = refl
 parts_in-are place (p ∷ parts) behind h =
     ap (parts_in place) (append_assoc (part_text p) (parts_text parts) behind)
-    ∙ (parts_in-part place p (parts_text parts ++ behind) h.0 h.1 ∙ ap (λ ps. p ∷ ps) (parts_in-are place parts behind h.2))
+    ∙ (parts_in-part place p (parts_text parts ++ behind) h.0 h.1
+    ∙ ap (λ ps. p ∷ ps) (parts_in-are place parts behind h.2))
 
 -- ---- the parts in front are those of the definition
 
@@ -152,11 +198,14 @@ hex_digits_in-few : (n : ℕ) (cs : Text) → length (hex_digits_in n cs) ≤ n
 hex_digits_in-few zero cs = omega arith
 hex_digits_in-few (suc n) [] = omega arith
 hex_digits_in-few (suc n) (c ∷ cs) = elim (cases_Bool (is_hex_digit c)) [
-  | inl t ↦ let more : length (hex_digits_in n cs) ≤ n = hex_digits_in-few n cs in rw t (omega (arith, more))
+  | inl t ↦ let more : length (hex_digits_in n cs) ≤ n = hex_digits_in-few n cs in
+      rw t (omega (arith, more))
   | inr f ↦ rw f (omega arith)
 ]
 
-hex_digits_in-end : (n : ℕ) (cs : Text) → (length (hex_digits_in n cs) ≡ n) ⊎ (begins is_hex_digit (drop (length (hex_digits_in n cs)) cs) ≡ false)
+hex_digits_in-end : (n : ℕ) (cs : Text)
+    → (length (hex_digits_in n cs) ≡ n) ⊎ (begins is_hex_digit (drop (length (hex_digits_in n cs)) cs)
+    ≡ false)
 hex_digits_in-end zero cs = inl refl
 hex_digits_in-end (suc n) [] = inr refl
 hex_digits_in-end (suc n) (c ∷ cs) = elim (cases_Bool (is_hex_digit c)) [
@@ -172,11 +221,14 @@ one_in-blank : (cs : Text) → is_at_most_one is_whitespace (one_in is_whitespac
 one_in-blank [] = refl
 one_in-blank (c ∷ cs) = elim (cases_Bool (is_whitespace c)) [ inl t ↦ rw t (rw t refl) | inr f ↦ rw f refl ]
 
-code_over : (digits cs : Text) → (length digits ≡ 6) ⊎ (begins is_hex_digit cs ≡ false) → is_hex_escape_over digits (one_in is_whitespace cs) (drop (length (one_in is_whitespace cs)) cs) ≡ true
+code_over : (digits cs : Text) → (length digits ≡ 6) ⊎ (begins is_hex_digit cs ≡ false)
+    → is_hex_escape_over digits (one_in is_whitespace cs) (drop (length (one_in is_whitespace cs)) cs)
+    ≡ true
 code_over digits [] e = or-right (length digits == 6) true refl
 code_over digits (c ∷ cs) e = elim (cases_Bool (is_whitespace c)) [
   | inl t ↦ rw t refl
-  | inr f ↦ rw f (both (not (is_whitespace c)) ((length digits == 6) || not (is_hex_digit c)) (not-false (is_whitespace c) f)
+  | inr f ↦ rw f (both (not (is_whitespace c)) ((length digits == 6) || not (is_hex_digit c))
+      (not-false (is_whitespace c) f)
       (elim e [
         | inl full ↦ or-left (length digits == 6) (not (is_hex_digit c)) (eq-eqb (length digits) 6 full)
         | inr ends ↦ or-right (length digits == 6) (not (is_hex_digit c)) (not-false (is_hex_digit c) ends)
@@ -184,7 +236,9 @@ code_over digits (c ∷ cs) e = elim (cases_Bool (is_whitespace c)) [
 ]
 
 hex_digits_in-some : (d : ℕ) (cs : Text) → is_hex_digit d ≡ true → 1 ≤ length (hex_digits_in 6 (d ∷ cs))
-hex_digits_in-some d cs h = subst (λ xs. 1 ≤ length xs) (sym (pick-true (is_hex_digit d) (d ∷ hex_digits_in 5 cs) [] h)) (omega arith)
+hex_digits_in-some d cs h =
+    subst (λ xs. 1 ≤ length xs) (sym (pick-true (is_hex_digit d) (d ∷ hex_digits_in 5 cs) [] h))
+    (omega arith)
 
 -- the code that stands in front of a hex digit and what is behind it
 code-part : (d : ℕ) (cs : Text) → is_hex_digit d ≡ true → Part1 (hex_escape_in (d ∷ cs)) backslash (d ∷ cs)
@@ -193,8 +247,10 @@ code-part d cs h =
     let rest : Text = drop (length digits) (d ∷ cs) in
     let blank : Text = one_in is_whitespace rest in
     let behind : Text = drop (length blank) rest in
-    let joins : (digits ++ blank) ++ behind ≡ d ∷ cs = append_assoc digits blank behind ∙ (ap (λ xs. digits ++ xs) (one_in-joins is_whitespace rest) ∙ hex_digits_in-joins 6 (d ∷ cs)) in
-    let there : drop (length (digits ++ blank)) (d ∷ cs) ≡ behind = ap (drop (length (digits ++ blank))) (sym joins) ∙ drop-append_seam (digits ++ blank) behind in
+    let joins : (digits ++ blank) ++ behind ≡ d ∷ cs = append_assoc digits blank behind
+    ∙ (ap (λ xs. digits ++ xs) (one_in-joins is_whitespace rest) ∙ hex_digits_in-joins 6 (d ∷ cs)) in
+    let there : drop (length (digits ++ blank)) (d ∷ cs) ≡ behind =
+    ap (drop (length (digits ++ blank))) (sym joins) ∙ drop-append_seam (digits ++ blank) behind in
     record {
       joins = ap (λ xs. backslash ∷ ((digits ++ blank) ++ xs)) there ∙ ap (λ xs. backslash ∷ xs) joins;
       is = subst (IsPart (hex_escape digits blank)) (sym there) (record {
@@ -212,14 +268,22 @@ escape-part (d ∷ cs) = elim (cases_Bool (is_newline d)) [
   | inl t ↦ rw (eqb-true d 10 t) (record { joins = refl; is = tt })
   | inr f ↦ elim (cases_Bool (is_hex_digit d)) [
     | inl t ↦ subst (λ p. Part1 p backslash (d ∷ cs)) (sym (escape_in-code d cs t)) (code-part d cs t)
-    | inr n ↦ subst (λ p. Part1 p backslash (d ∷ cs)) (sym (pick-false (is_newline d) escaped_newline (if is_hex_digit d then hex_escape_in (d ∷ cs) else escaped d) f ∙ pick-false (is_hex_digit d) (hex_escape_in (d ∷ cs)) (escaped d) n)) (record { joins = refl; is = (n, f) })
+    | inr n ↦ subst (λ p. Part1 p backslash (d ∷ cs))
+        (sym (pick-false (is_newline d) escaped_newline
+        (if is_hex_digit d then hex_escape_in (d ∷ cs) else escaped d) f
+        ∙ pick-false (is_hex_digit d) (hex_escape_in (d ∷ cs)) (escaped d) n)) (record {
+          joins = refl;
+          is = (n, f);
+        })
   ]
 ]
 
 part-part : (c : ℕ) (cs : Text) → Part1 (part_in c cs) c cs
 part-part c cs = elim (cases_Bool (c == backslash)) [
-  | inl t ↦ subst (λ p. Part1 p c cs) (sym (pick-true (c == backslash) (escape_in cs) (itself c) t)) (subst (λ x. Part1 (escape_in cs) x cs) (sym (eqb-true c backslash t)) (escape-part cs))
-  | inr f ↦ subst (λ p. Part1 p c cs) (sym (pick-false (c == backslash) (escape_in cs) (itself c) f)) (record { joins = refl; is = f })
+  | inl t ↦ subst (λ p. Part1 p c cs) (sym (pick-true (c == backslash) (escape_in cs) (itself c) t))
+      (subst (λ x. Part1 (escape_in cs) x cs) (sym (eqb-true c backslash t)) (escape-part cs))
+  | inr f ↦ subst (λ p. Part1 p c cs) (sym (pick-false (c == backslash) (escape_in cs) (itself c) f))
+      (record { joins = refl; is = f })
 ]
 
 -- the parts in front, and what stands behind them
@@ -229,17 +293,24 @@ pub record Fronts (place : Place) (cs : Text) : Type 0 where
   pub ends : parts_in place (after_parts (parts_in place cs) cs) ≡ []
 
 -- one part more stands in front
-fronts-cons : (place : Place) (p : Part) (cs rest : Text) → part_text p ++ rest ≡ cs → may_stand place p ≡ true → IsPart p rest → Fronts place rest → Fronts place cs
+fronts-cons : (place : Place) (p : Part) (cs rest : Text) → part_text p ++ rest ≡ cs
+    → may_stand place p ≡ true → IsPart p rest → Fronts place rest → Fronts place cs
 fronts-cons place p cs rest joins a h more =
     let parts : List Part = parts_in place rest in
     let behind : Text = after_parts parts rest in
-    let front : parts_in place cs ≡ p ∷ parts = ap (parts_in place) (sym joins) ∙ parts_in-part place p rest a h in
-    let whole : parts_text (p ∷ parts) ++ behind ≡ cs = append_assoc (part_text p) (parts_text parts) behind ∙ (ap (λ xs. part_text p ++ xs) more.joins ∙ joins) in
-    let there : after_parts (p ∷ parts) cs ≡ behind = ap (after_parts (p ∷ parts)) (sym whole) ∙ drop-append_seam (parts_text (p ∷ parts)) behind in
+    let front : parts_in place cs ≡ p ∷ parts = ap (parts_in place) (sym joins)
+    ∙ parts_in-part place p rest a h in
+    let whole : parts_text (p ∷ parts) ++ behind ≡ cs = append_assoc (part_text p) (parts_text parts) behind
+    ∙ (ap (λ xs. part_text p ++ xs) more.joins ∙ joins) in
+    let there : after_parts (p ∷ parts) cs ≡ behind = ap (after_parts (p ∷ parts)) (sym whole)
+    ∙ drop-append_seam (parts_text (p ∷ parts)) behind in
     let there' : after_parts (parts_in place cs) cs ≡ behind = ap (λ ps. after_parts ps cs) front ∙ there in
     record {
-      joins = ap (λ ps. parts_text ps ++ after_parts (parts_in place cs) cs) front ∙ (ap (λ xs. parts_text (p ∷ parts) ++ xs) there' ∙ whole);
-      are = subst (λ ps. AreParts place ps (after_parts (parts_in place cs) cs)) (sym front) (subst (AreParts place (p ∷ parts)) (sym there') (a, subst (IsPart p) (sym more.joins) h, more.are));
+      joins = ap (λ ps. parts_text ps ++ after_parts (parts_in place cs) cs) front
+          ∙ (ap (λ xs. parts_text (p ∷ parts) ++ xs) there' ∙ whole);
+      are = subst (λ ps. AreParts place ps (after_parts (parts_in place cs) cs)) (sym front)
+          (subst (AreParts place (p ∷ parts)) (sym there')
+          (a, subst (IsPart p) (sym more.joins) h, more.are));
       ends = ap (parts_in place) there' ∙ more.ends;
     }
 
@@ -260,8 +331,10 @@ fronts-within (suc n) place (c ∷ cs) l = elim (cases_Bool (may_stand place (pa
   | inl t ↦
       let rest : Text = drop (pred (length (part_text (part_in c cs)))) cs in
       let one : Part1 (part_in c cs) c cs = part-part c cs in
-      let shorter : length rest ≤ length cs = rw (length-drop (pred (length (part_text (part_in c cs)))) cs) (omega arith) in
-      fronts-cons place (part_in c cs) (c ∷ cs) rest one.joins t one.is (fronts-within n place rest (omega (arith, l, shorter)))
+      let shorter : length rest ≤ length cs =
+      rw (length-drop (pred (length (part_text (part_in c cs)))) cs) (omega arith) in
+      fronts-cons place (part_in c cs) (c ∷ cs) rest one.joins t one.is
+      (fronts-within n place rest (omega (arith, l, shorter)))
   | inr f ↦ fronts-none place (c ∷ cs) (parts_in-stop place c cs f)
 ]
 

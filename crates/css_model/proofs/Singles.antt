@@ -17,20 +17,24 @@ AreRows P [] = Unit {0}
 AreRows P (row ∷ rows) = P row.0 row.1 × AreRows P rows
 
 -- what holds of each row holds of the one that is looked up
-row-found : (P : ℕ → TokenType → Type 0) (rows : List (ℕ × TokenType)) → AreRows P rows → (c : ℕ) (token_type : TokenType) → lookup (λ d. c == d) rows ≡ Some token_type → P c token_type
+row-found : (P : ℕ → TokenType → Type 0) (rows : List (ℕ × TokenType)) → AreRows P rows
+    → (c : ℕ) (token_type : TokenType) → lookup (λ d. c == d) rows ≡ Some token_type → P c token_type
 row-found P [] h c token_type e = absurd (false≢true (ap is_some e))
 row-found P (row ∷ rows) h c token_type e =
     let more : Option TokenType = lookup (λ d. c == d) rows in
     elim (cases_Bool (c == row.0)) [
       | inl t ↦
-          let same : row.1 ≡ token_type = ap (λ found. unwrap_or found token_type) (sym (pick-true (c == row.0) (Some row.1) more t) ∙ e) in
+          let same : row.1 ≡ token_type =
+          ap (λ found. unwrap_or found token_type)
+          (sym (pick-true (c == row.0) (Some row.1) more t) ∙ e) in
           subst (P c) same (subst (λ d. P d row.1) (sym (eqb-true c row.0 t)) h.0)
       | inr f ↦ row-found P rows h.1 c token_type (sym (pick-false (c == row.0) (Some row.1) more f) ∙ e)
     ]
 
 -- ---- what they spell
 
-pub singles-spell : (c : ℕ) (token_type : TokenType) (rest : Text) → single_of c ≡ Some token_type → Spells token_type (c ∷ []) rest
+pub singles-spell : (c : ℕ) (token_type : TokenType) (rest : Text) → single_of c ≡ Some token_type
+    → Spells token_type (c ∷ []) rest
 singles-spell c token_type rest e =
     row-found (λ d t. (rest : Text) → Spells t (d ∷ []) rest) singles (
       (λ r. record { c = 58; spelling = refl; is = refl }),
@@ -69,7 +73,8 @@ pub record NoOther (c : ℕ) : Type 0 where
   pub start : is_ident_start c ≡ false
   pub backslash : c == backslash ≡ false
 
-abbrev no_other : {c : ℕ} → is_whitespace c ≡ false → is_quote c ≡ false → is_digit c ≡ false → is_ident_start c ≡ false → c == backslash ≡ false → NoOther c
+abbrev no_other : {c : ℕ} → is_whitespace c ≡ false → is_quote c ≡ false → is_digit c ≡ false
+    → is_ident_start c ≡ false → c == backslash ≡ false → NoOther c
 no_other w q d s b = record { white = w; quote = q; digit = d; start = s; backslash = b }
 
 pub single-no_other : (c : ℕ) (token_type : TokenType) → single_of c ≡ Some token_type → NoOther c
@@ -103,12 +108,15 @@ single-no_other c token_type e =
 
 -- ---- the type of a single code point
 
-pub single_type-found : (c : ℕ) (token_type : TokenType) → single_of c ≡ Some token_type → single_type c ≡ token_type
+pub single_type-found : (c : ℕ) (token_type : TokenType) → single_of c ≡ Some token_type
+    → single_type c ≡ token_type
 single_type-found c token_type e = ap (λ found. unwrap_or found (Delim c)) e
 
 abbrev pub first_or : Text → ℕ
 first_or [] = 0
 first_or (c ∷ cs) = c
 
-pub single-is : (token_type : TokenType) (c : ℕ) (s : Text) → IsSingle token_type s → s ≡ c ∷ [] → token_type ≡ single_type c
-single-is token_type c s h e = sym (single_type-found h.c token_type h.is) ∙ ap (λ xs. single_type (first_or xs)) (sym h.spelling ∙ e)
+pub single-is : (token_type : TokenType) (c : ℕ) (s : Text) → IsSingle token_type s → s ≡ c ∷ []
+    → token_type ≡ single_type c
+single-is token_type c s h e = sym (single_type-found h.c token_type h.is)
+    ∙ ap (λ xs. single_type (first_or xs)) (sym h.spelling ∙ e)

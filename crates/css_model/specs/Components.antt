@@ -7,7 +7,8 @@ use Rattle.css_model.specs.declared.token.TokenType.{TokenType}
 use Rattle.css_model.specs.declared.token.TokenType.TheVariants.{Function, Opening, Closing}
 use Rattle.css_model.specs.Classes.{Text}
 
--- a preserved token, or a simple block or a function with the token that opens it, its contents and the token that closes it, if there is one
+-- a preserved token, or a simple block or a function with the token that opens it, its contents and
+-- the token that closes it, if there is one
 mutual
   pub data Component : Type 0 where
     preserved : Token → Component
@@ -59,7 +60,8 @@ IsClosed b None rest = rest ≡ []
 
 -- ---- nesting
 
--- a component is nested rightly inside this open bracket and before these tokens: a preserved token opens nothing and does not close the bracket
+-- a component is nested rightly inside this open bracket and before these tokens: a preserved token
+-- opens nothing and does not close the bracket
 abbrev mutual
   pub IsNested : Option Bracket → Component → List Token → Type 0
   IsNested around (preserved t) rest =

@@ -5,7 +5,8 @@ use Rattle.units64.specs.Limits.{clamped_millionths}
 use Rattle.css_model.specs.declared.token.Number.{Number}
 use Rattle.css_model.specs.Classes.{Text, hyphen, full_stop, is_digit, is_sign, is_e, begins, is_empty, is_at_most_one}
 
--- what is written of a number: perhaps a sign, the integer part, the fraction after a point, `e` or `E`, and the exponent with its sign; each may be empty
+-- what is written of a number: perhaps a sign, the integer part, the fraction after a point, `e` or
+-- `E`, and the exponent with its sign; each may be empty
 pub record Numeral : Type 0 where
   pub sign : Text
   pub integer : Text
@@ -46,7 +47,8 @@ abbrev pub begins_signed_digit : Text → Bool
 begins_signed_digit [] = false
 begins_signed_digit (c ∷ cs) = is_digit c || (is_sign c && begins is_digit cs)
 
--- the text begins with `e` or `E`, perhaps a sign, and a digit: after a number they would be its exponent
+-- the text begins with `e` or `E`, perhaps a sign, and a digit: after a number they would be its
+-- exponent
 abbrev pub begins_exponent : Text → Bool
 begins_exponent [] = false
 begins_exponent (c ∷ cs) = is_e c && begins_signed_digit cs

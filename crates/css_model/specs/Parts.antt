@@ -1,4 +1,5 @@
--- What names, strings and urls are made of: code points and escapes (CSS Syntax 3, sections 4.3.7 and 4.3.8).
+-- What names, strings and urls are made of: code points and escapes (CSS Syntax 3, sections 4.3.7
+-- and 4.3.8).
 use Rattle.std.specs.Prelude.{◌≡◌, ℕ, ◌+◌, ◌*◌, ◌-◌, ◌≤◌, nat_lt, nat_le, ◌==◌, ◌||◌, ◌&&◌, not, List, [], ◌∷◌, ◌++◌, length, flat_map, Bool, true, false, if◌then◌else◌}
 use Rattle.std.specs.List.{list_all}
 use Rattle.css_model.specs.declared.place.Place.{Place}
@@ -45,7 +46,8 @@ pub record IsHexEscape (digits blank rest : Text) : Type 0 where
   pub is_blank : is_at_most_one is_whitespace blank ≡ true
   pub over : is_hex_escape_over digits blank rest ≡ true
 
--- this is a part, before this text: a backslash is never itself; any code point may be escaped but a newline and a hex digit, which begins a hex escape
+-- this is a part, before this text: a backslash is never itself; any code point may be escaped but
+-- a newline and a hex digit, which begins a hex escape
 abbrev pub IsPart : Part → Text → Type 0
 IsPart (itself c) rest = c == backslash ≡ false
 IsPart (escaped c) rest = (is_hex_digit c ≡ false) × (is_newline c ≡ false)

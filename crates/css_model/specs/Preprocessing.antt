@@ -15,4 +15,7 @@ replaced c = if (c == carriage_return) || (c == form_feed) then newline else (if
 -- each code point as it is replaced, without the carriage returns that are before a newline
 abbrev pub preprocessed : Text → Text
 preprocessed [] = []
-preprocessed (c ∷ cs) = if (c == carriage_return) && begins is_newline cs then preprocessed cs else replaced c ∷ preprocessed cs
+preprocessed (c ∷ cs) =
+    if (c == carriage_return) && begins is_newline cs
+    then preprocessed cs
+    else replaced c ∷ preprocessed cs

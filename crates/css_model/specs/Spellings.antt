@@ -113,7 +113,8 @@ pub record IsNumber (n : NumberValue) (mark s : Text) : Type 0 where
   pub is_numeral : IsNumeral numeral
   pub value : n ≡ number_of numeral
 
--- a number and an identifier; the number is as long as it can be, so the unit does not begin with what could be its exponent
+-- a number and an identifier; the number is as long as it can be, so the unit does not begin with
+-- what could be its exponent
 pub record IsDimension (n : NumberValue) (unit s rest : Text) : Type 0 where
   pub numeral : Numeral
   pub tail : Text

@@ -1,4 +1,5 @@
--- The token list of a text: the text is cut into comments and tokens, and each is as long as it can be (CSS Syntax 3, sections 4.3.1 and 4.3.2).
+-- The token list of a text: the text is cut into comments and tokens, and each is as long as it can
+-- be (CSS Syntax 3, sections 4.3.1 and 4.3.2).
 use Rattle.std.specs.Prelude.{◌≡◌, ℕ, ◌+◌, ◌≤◌, ◌||◌, List, [], ◌∷◌, ◌++◌, length, codes, flat_map, Bool, false}
 use Rattle.css_model.specs.declared.token.Token.{Token}
 use Rattle.css_model.specs.declared.token.TokenType.{TokenType}

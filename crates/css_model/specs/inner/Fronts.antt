@@ -38,7 +38,8 @@ escape_in (c ∷ cs) =
 abbrev pub part_in : ℕ → Text → Part
 part_in c cs = if c == backslash then escape_in cs else itself c
 
--- the parts in front, as long as they may stand at this place, after n code points that belong to a part before; so the recursion is over the text
+-- the parts in front, as long as they may stand at this place, after n code points that belong to a
+-- part before; so the recursion is over the text
 unfoldable pub parts_after : Place → ℕ → Text → List Part
 parts_after place n [] = []
 parts_after place (suc n) (c ∷ cs) = parts_after place n cs

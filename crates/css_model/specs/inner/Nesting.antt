@@ -1,4 +1,6 @@
--- The component values of tokens, found from the last token to the first: each bracket is opened, and closed by its match (CSS Syntax 3, sections 5.4.7 to 5.4.9). What they are is said in Components, and contracts cite that.
+-- The component values of tokens, found from the last token to the first: each bracket is opened,
+-- and closed by its match (CSS Syntax 3, sections 5.4.7 to 5.4.9). What they are is said in
+-- Components, and contracts cite that.
 use Rattle.std.specs.Prelude.{List, [], ◌∷◌, if◌then◌else◌, drop, Option, Some, None, Bool, true, false}
 use Rattle.std.specs.Option.{is_some}
 use Rattle.css_model.specs.declared.token.Bracket.{Bracket}
@@ -23,7 +25,8 @@ abbrev pub innermost : List Token → Option Bracket
 innermost [] = None
 innermost (head ∷ outer) = opened_by head.token_type
 
--- what is left of the open brackets: the rest of the innermost one, and for each that is closed its closing token with the rest of the bracket around it
+-- what is left of the open brackets: the rest of the innermost one, and for each that is closed its
+-- closing token with the rest of the bracket around it
 pub data Levels : Type 0 where
   levels : (contents : Components) (outside : List (Token × Components)) → Levels
 

@@ -1,4 +1,5 @@
--- The pieces and the tokens of a text, found by the standard's algorithm (CSS Syntax 3, section 4.3). What they are is said in TokenList, and contracts cite that.
+-- The pieces and the tokens of a text, found by the standard's algorithm (CSS Syntax 3, section
+-- 4.3). What they are is said in TokenList, and contracts cite that.
 use Rattle.std.specs.Prelude.{ℕ, zero, suc, pred, ◌==◌, ◌&&◌, ◌||◌, not, List, [], ◌∷◌, ◌++◌, length, drop, map, codes, if◌then◌else◌}
 use Rattle.std.specs.Option.{unwrap_or}
 use Rattle.css_model.specs.declared.place.Place.TheVariants.{InName, InString, InUrl, InBadUrl}
@@ -54,7 +55,8 @@ consume_bad_url_remnants head cs =
     token BadUrl (head ++ (parts_text (parts_in InBadUrl cs)
     ++ one_in is_close_round (after_parts (parts_in InBadUrl cs) cs)))
 
--- the url of this head, whitespace, parts and whitespace, where `cs` is what is after them, or else a bad url
+-- the url of this head, whitespace, parts and whitespace, where `cs` is what is after them, or else
+-- a bad url
 abbrev pub url_of_parts : Text → Text → Text → List Part → Text → Text → Piece
 url_of_parts head inside before parts after cs =
     if is_empty cs || begins is_close_round cs
@@ -122,7 +124,8 @@ marked_piece c parts =
     then token (AtKeyword (meanings InName parts)) (codes "@" ++ parts_text parts)
     else single_piece c)
 
--- the first piece of a text that begins with these parts of a name, and not with whitespace, a quote, a comment or a number
+-- the first piece of a text that begins with these parts of a name, and not with whitespace, a
+-- quote, a comment or a number
 abbrev pub other_piece : List Part → ℕ → Text → Piece
 other_piece parts c cs =
     if has_front (codes "-->") (c ∷ cs) then token Cdc (codes "-->")
@@ -142,7 +145,8 @@ first_piece c cs =
 
 -- ---- all pieces, and the tokens
 
--- the pieces of a text, after n code points that belong to a piece before; so the recursion is over the text
+-- the pieces of a text, after n code points that belong to a piece before; so the recursion is over
+-- the text
 unfoldable pub pieces_after : ℕ → Text → List Piece
 pieces_after n [] = []
 pieces_after (suc n) (c ∷ cs) = pieces_after n cs
