@@ -1,4 +1,4 @@
--- Pieces of one character.
+-- Pieces of one code point.
 use Rattle.std.proofs.Common.{◌≡◌, ◌∙◌, sym, ap, refl, subst, ℕ, suc, ◌+◌, ◌≤◌, ◌==◌, List, [], ◌∷◌, ◌++◌, length, drop, Bool, true, false, ◌&&◌, ◌||◌, arith, length-append, inl, inr}
 use Rattle.std.proofs.lemmas.Bool.{true≢false, false≢true}
 use Rattle.std.specs.Prelude.{codes}
@@ -22,7 +22,7 @@ use Rattle.css_model.proofs.FirstStrings.{first_or}
 use Rattle.css_model.proofs.NumberSizes.{some-length, fraction-length}
 use Rattle.css_laws.proofs.Meets.{Meets, meet}
 
--- a character with which no longer class begins, before this rest
+-- a code point with which no longer type begins, before this rest
 pub record Alone (c : ℕ) (rest : Text) : Type 0 where
   pub white : is_whitespace c ≡ false
   pub quote : is_quote c ≡ false
@@ -40,7 +40,7 @@ follows-some (hex_escape digits blank ∷ parts) h = omega arith
 follows-some (escaped_newline ∷ parts) h = omega arith
 follows-some (escape_at_end ∷ parts) h = omega arith
 
--- behind the first of one character stands nothing
+-- after the first of one code point is nothing
 tail-none : (d c : ℕ) (xs : Text) → d ∷ xs ≡ c ∷ [] → length xs ≡ 0
 tail-none d c xs e = ap (λ ys. length (drop 1 ys)) e
 
@@ -100,7 +100,7 @@ some-digits : (integer fraction : Text) → is_empty integer && is_empty fractio
 some-digits [] fraction h = let l : 1 ≤ length fraction = some-length fraction h in omega (arith, l)
 some-digits (d ∷ integer) fraction h = omega arith
 
--- a number of one character is a digit
+-- a number of one code point is a digit
 digit-alone : (sign integer fraction more : Text) (c : ℕ) → list_all is_digit integer ≡ true
     → is_empty integer && is_empty fraction ≡ false
     → sign ++ (integer ++ (fraction_text fraction ++ more)) ≡ c ∷ [] → is_digit c ≡ true
@@ -131,7 +131,7 @@ number-longer w tail s c rest a h e l =
     (exponent_text w ++ tail) c h.integer h.some_digit (sym (numeral-unjoined w tail) ∙ (sym e ∙ l)))
     ∙ a.digit)
 
--- ---- the character's own class
+-- ---- the code point's own type
 
 pub single-alone : (c : ℕ) (token_type : TokenType) (rest : Text) → single_of c ≡ Some token_type
     → Alone c rest
@@ -184,7 +184,7 @@ delim-type c h =
     or-false-right (is_digit c) (is_ident_start c || is_listed c) o2 in
     other-delim c (single_of c) (or-false-right (is_ident_start c) (is_listed c) o3)
 
--- the class of a mark that is written so
+-- the type of a code point that is spelled so
 mark-type : (token_type : TokenType) (d c : ℕ) (s : Text) → token_type ≡ single_type d → s ≡ d ∷ []
     → s ≡ c ∷ [] → token_type ≡ single_type c
 mark-type token_type d c s k e l = k ∙ ap (λ xs. single_type (first_or xs)) (sym e ∙ l)
@@ -236,7 +236,7 @@ alone-is Comma c s rest a e h = single-is Comma c s h e
 alone-is (Opening b) c s rest a e h = single-is (Opening b) c s h e
 alone-is (Closing b) c s rest a e h = single-is (Closing b) c s h e
 
--- a character alone is one piece
+-- a single code point is one piece
 pub alone-meets : (token_type : TokenType) (c : ℕ) (s rest : Text) → Alone c rest → s ≡ c ∷ []
     → Spells token_type s rest → (q : Piece) → Meets token_type s rest q
 alone-meets token_type c s rest a e h (token other t) =

@@ -1,4 +1,4 @@
--- Which class the computation takes of a text.
+-- Which type the computation takes of a text.
 use Rattle.std.proofs.Common.{◌≡◌, ◌∙◌, ℕ, [], ◌∷◌, length, drop, false}
 use Rattle.std.specs.Prelude.{codes, if◌then◌else◌}
 use Rattle.css_model.specs.Classes.{Text, is_whitespace, is_quote, has_front}
@@ -16,14 +16,14 @@ abbrev pub first_of : Text → Piece
 first_of [] = comment []
 first_of (c ∷ cs) = first_piece c cs
 
--- a number, or what stands in front where none does
+-- a number, or what is in front where none is
 abbrev pub number_or_other : ℕ → Text → Piece
 number_or_other c cs =
     if would_start_number (c ∷ cs) then consume_numeric (numeral_in (c ∷ cs))
     (drop (length (numeral_text (numeral_in (c ∷ cs)))) (c ∷ cs)) else other_piece
     (parts_in InName (c ∷ cs)) c cs
 
--- behind whitespace
+-- after whitespace
 pub past-white : (c : ℕ) (cs : Text) → is_whitespace c ≡ false
     → first_of (c ∷ cs)
     ≡ (if is_quote c then consume_string c cs else
@@ -33,7 +33,7 @@ past-white c cs w =
     (if is_quote c then consume_string c cs else
     (if has_front (codes "/*") (c ∷ cs) then consume_comment (drop 1 cs) else number_or_other c cs)) w
 
--- behind whitespace, strings and comments
+-- after whitespace, strings and comments
 pub past-comment : (c : ℕ) (cs : Text) → is_whitespace c ≡ false → is_quote c ≡ false
     → has_front (codes "/*") (c ∷ cs) ≡ false → first_of (c ∷ cs) ≡ number_or_other c cs
 past-comment c cs w q k =

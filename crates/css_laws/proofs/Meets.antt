@@ -12,11 +12,11 @@ use Rattle.css_model.specs.TokenList.{Piece, token, piece_text, IsPiece}
 use Rattle.css_model.specs.inner.Fronts.{parts_in}
 use Rattle.css_model.proofs.PartLemmas.{parts_in-are}
 
--- a piece that stands where `s` does is the token of this class
+-- a piece where `s` is is the token of this type
 abbrev pub Meets : TokenType → Text → Text → Piece → Type 0
 Meets token_type s rest q = piece_text q ≡ s → IsPiece q rest → token token_type s ≡ q
 
--- a token that stands there is this one, where its class is
+-- a token there is this one, where its type is
 pub meet : (token_type other : TokenType) (s t rest : Text) → (Spells other s rest → token_type ≡ other)
     → Meets token_type s rest (token other t)
 meet token_type other s t rest same e h = ap (λ k. token k s) (same (subst (λ x. Spells other x rest) e h))

@@ -10,7 +10,7 @@ use Rattle.css_model.specs.Parts.{Part, parts_text, meanings, would_start_ident,
 use Rattle.css_model.specs.Spellings.{quote_follows, is_url_name, IsName, IsFunction, IsUrl, IsBadUrl}
 use Rattle.css_model.specs.TokenList.{Piece, token}
 use Rattle.css_model.specs.inner.Fronts.{one_in, run_in, part_in, parts_in, after_parts, would_start_number}
-use Rattle.css_model.specs.inner.Pieces.{consume_bad_url_remnants, consume_url, consume_ident_like, marked_piece}
+use Rattle.css_model.specs.inner.Pieces.{after_white, after_url_parts, consume_bad_url_remnants, consume_url, consume_ident_like, marked_piece}
 use Rattle.css_model.proofs.Tests.{pick-true}
 use Rattle.css_model.proofs.PartLemmas.{parts_in-nil, parts_in-stop}
 use Rattle.css_model.proofs.Demands.{begins_name}
@@ -18,7 +18,7 @@ use Rattle.css_model.proofs.FirstNames.{ident-within, function-headed, url-heade
 use Rattle.css_model.proofs.FirstPieces.{cdc-parts}
 use Rattle.css_model.proofs.Units.{number-no_name}
 use Rattle.css_model.proofs.UrlPieces.{Headed, UrlHeaded}
-use Rattle.css_model.proofs.Urls.{after_white, after_url_parts, is_closed, url-parts}
+use Rattle.css_model.proofs.Urls.{is_closed, url-parts}
 use Rattle.css_laws.proofs.Branches.{first_of, past-comment, past-number}
 use Rattle.css_laws.proofs.Meets.{Meets, meet, name-same}
 
@@ -110,7 +110,7 @@ url-same a b s rest h k =
 
 -- ---- each of them against all
 
--- a piece of a name that is spelled so is of this class
+-- a piece that begins with a name and is spelled so is of this type
 pub record NamesAre (token_type : TokenType) (s rest : Text) : Type 0 where
   pub as_ident : (name : Text) → IsName name true s rest → token_type ≡ Ident name
   pub as_function : (name : Text) → IsFunction name s rest → token_type ≡ Function name
@@ -127,7 +127,7 @@ cdc-behind rest =
 cdc-size : (rest : Text) → name_size (codes "-->" ++ rest) ≡ 2
 cdc-size rest = ap (λ ps. length (parts_text ps)) (cdc-parts rest)
 
--- what a head stands before is no `-->`
+-- what begins with a head is not `-->`
 cdc-no_head : (s rest inside : Text)
     → after_parts (parts_in InName (s ++ rest)) (s ++ rest) ≡ open_round ∷ inside → s ≡ codes "-->" → ⊥
 cdc-no_head s rest inside b e =

@@ -26,7 +26,7 @@ use Rattle.css_laws.proofs.Meets.{Meets, meet, name-same}
 
 -- ---- the number in front
 
--- the spelling is the number that is computed of it, and this behind it
+-- the spelling is the number that is computed of it, and this after it
 record Split (w : Numeral) (tail s : Text) : Type 0 where
   is : numeral_in s ≡ w
   behind : behind_numeral s ≡ tail
@@ -63,7 +63,7 @@ value-same : (m n : NumberValue) (v w : Numeral) (s t u : Text) → m ≡ number
     → Split v t s → Split w u s → m ≡ n
 value-same m n v w s t u a b h k = a ∙ (ap number_of (sym h.is ∙ k.is) ∙ sym b)
 
--- and so is what stands behind it
+-- and so is what is after it
 tail-same : (v w : Numeral) (s t u : Text) → Split v t s → Split w u s → t ≡ u
 tail-same v w s t u h k = sym h.behind ∙ k.behind
 
@@ -112,7 +112,7 @@ dimension-same m n a b s rest h k =
 
 -- ---- each of them against all
 
--- a piece that a number begins, and that is spelled so, is of this class
+-- a piece that begins with a number and is spelled so is of this type
 pub record NumbersAre (token_type : TokenType) (s rest : Text) : Type 0 where
   pub as_number : (n : NumberValue) → IsNumber n [] s → token_type ≡ Number n
   pub as_percentage : (n : NumberValue) → IsNumber n (codes "%") s → token_type ≡ Percentage n

@@ -32,7 +32,7 @@ enclosed-close heads head contents (Some t) behind b o c =
     rw (levels-closing (head ∷ heads) t behind alone match)
     (enclosed-closed head t contents (levels_of heads behind))
 
--- a bracket, with what it holds and its end
+-- a bracket, with its contents and its end
 levels-bracket : (heads : List Token) (head : Token) (contents : Components) (close : Option
     Token) (behind : List Token) (b : Bracket) → opened_by head.token_type ≡ Some b
     → IsClosed b close behind

@@ -55,7 +55,7 @@ cdc-is s rest e = subst (λ xs. token Cdc xs ≡ first_of (xs ++ rest)) (sym e) 
 
 -- ---- `#` and `@`
 
--- where a mark has something behind it, it does not stand alone
+-- a mark with something after it is not single
 mark-longer : (m d : ℕ) (s tail : Text) → s ≡ m ∷ tail → 1 ≤ length tail → d ∷ [] ≡ s → ⊥
 mark-longer m d s tail e l j =
     let one : length s ≡ 1 = ap length (sym j) in
@@ -114,7 +114,7 @@ at-first name s rest h =
     subst (Meets (AtKeyword name) s rest) (sym (ap (λ xs. first_of (xs ++ rest)) h.1 ∙ front))
     (at-meets name s rest h (parts_in InName behind))
 
--- ---- all classes
+-- ---- all types
 
 -- a token of one code point
 single-meets : (token_type : TokenType) (s rest : Text) → IsSingle token_type s → Spells token_type s rest
@@ -186,7 +186,7 @@ computed-first : (cs : Text) → 1 ≤ length cs → IsFirst (first_of cs) cs
 computed-first [] l = absurd (omega (arith, l))
 computed-first (c ∷ cs) l = pieces-first computed-numbers c cs
 
--- a piece that stands in front, where no longer one does, is the one that is computed
+-- a piece in front, where no longer one is, is the one that is computed
 pub piece-is : (p : Piece) (rest : Text) → 1 ≤ length (piece_text p) → IsPiece p rest → IsLongest p rest
     → p ≡ first_of (piece_text p ++ rest)
 piece-is p rest some h long =

@@ -16,7 +16,7 @@ use Rattle.css_laws.proofs.Alone.{name-some, open-long, head-long}
 use Rattle.css_laws.proofs.Branches.{first_of}
 use Rattle.css_laws.proofs.OnePiece.{piece-is}
 
--- ---- a piece has a character
+-- ---- a piece is not empty
 
 written-some : (s t : Text) → s ≡ t → 1 ≤ length t → 1 ≤ length s
 written-some s t e l = subst (λ xs. 1 ≤ length xs) (sym e) l

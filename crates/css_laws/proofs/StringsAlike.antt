@@ -19,7 +19,7 @@ use Rattle.css_laws.proofs.Meets.{Meets, meet}
 
 -- ---- the parts of a string
 
--- what stands behind the quote of a spelling
+-- what is after the quote of a spelling
 abbrev behind_quote : Text → Text → Text
 behind_quote s rest = drop 1 (s ++ rest)
 
@@ -81,7 +81,7 @@ string-no_bad value s rest h k =
 
 -- ---- each of them against both
 
--- a string or bad string that is spelled so is of this class
+-- a string or bad string that is spelled so is of this type
 pub record StringsAre (token_type : TokenType) (s rest : Text) : Type 0 where
   pub as_string : (value : Text) → IsString value s rest → token_type ≡ String value
   pub as_bad_string : IsBadString s rest → token_type ≡ BadString

@@ -1,4 +1,4 @@
--- What a piece of each class demands of the front of the text.
+-- What a piece of each type demands of the front of the text.
 use Rattle.std.proofs.Common.{◌≡◌, ◌∙◌, sym, ap, subst, ◌==◌, List, [], ◌∷◌, ◌++◌, length, Bool, true, false, ◌&&◌, append_assoc, inl, inr}
 use Rattle.std.proofs.lemmas.Bool.{true≢false, false≢true}
 use Rattle.std.specs.Prelude.{codes}
@@ -16,11 +16,11 @@ use Rattle.css_model.proofs.Tests.{and-left, and-right, or-left, or-cases}
 use Rattle.css_model.proofs.PartLemmas.{parts_in-are}
 use Rattle.css_model.proofs.NumeralLemmas.{numeral-begins}
 
--- a name stands in front, that is an identifier
+-- a name is in front, and would start an identifier
 abbrev pub begins_name : Text → Bool
 begins_name cs = would_start_ident (parts_in InName cs)
 
--- what must be in front of a text of which a token of this class is the first
+-- what must be in front of a text that begins with a token of this type
 abbrev pub Demands : TokenType → Text → Text → Type 0
 Demands (Ident name) s cs = begins_name cs ≡ true
 Demands (Function name) s cs = begins_name cs ≡ true
@@ -78,7 +78,7 @@ url_head-demands s tail rest head e h =
     ap begins_name (ap (λ xs. xs ++ rest) e ∙ append_assoc head tail rest)
     ∙ head-demands h.name h.head (codes "(") (tail ++ rest) head h.spelling h.is_name
 
--- ---- all classes
+-- ---- all types
 
 white-demands : (s rest : Text) → list_all is_whitespace s ≡ true → is_empty s ≡ false
     → begins is_whitespace (s ++ rest) ≡ true

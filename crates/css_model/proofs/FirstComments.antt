@@ -1,4 +1,4 @@
--- The first piece where a text begins with a comment, `<!--`, `#`, `@` or a character alone.
+-- The first piece of a text that begins with a comment.
 use Rattle.std.proofs.Common.{◌≡◌, ◌∙◌, sym, ap, refl, subst, ℕ, suc, ◌+◌, ◌≤◌, ◌==◌, [], ◌∷◌, ◌++◌, length, drop, Bool, true, false, ◌&&◌, arith, append_assoc, length-append, eqb-true, inl, inr}
 use Rattle.std.proofs.lemmas.Bool.{cases_Bool, false≢true}
 use Rattle.std.proofs.Math.Seq.{drop-append_seam}
@@ -25,7 +25,7 @@ and-zero false = refl
 
 -- ---- comments
 
--- the inside of a comment, and what stands behind it
+-- the inside of a comment, and what is after it
 record Inside (cs : Text) : Type 0 where
   rest : Text
   joins : comment_inside cs ++ (comment_end (drop (length (comment_inside cs)) cs) ++ rest) ≡ cs
@@ -36,7 +36,7 @@ end-front : (c : ℕ) (xs : Text) → has_front (codes "*/") (c ∷ xs) ≡ fals
     → has_comment_end (c ∷ xs) ≡ false
 end-front c xs f h = or-none (has_front (codes "*/") (c ∷ xs)) (has_comment_end xs) f h
 
--- a character that begins no end, before an inside
+-- a code point that begins no end, before an inside
 inside-cons : (c : ℕ) (cs : Text) → has_front (codes "*/") (c ∷ cs) ≡ false
     → has_comment_end (comment_inside cs) ≡ false → has_comment_end (c ∷ comment_inside cs) ≡ false
 inside-cons c [] f h = end-front c [] (and-zero (c == 42)) refl
@@ -51,7 +51,7 @@ inside-cons c (d ∷ cs) f h = elim (cases_Bool (has_front (codes "*/") (d ∷ c
       ∙ end-front c (d ∷ comment_inside cs) f (sym (ap has_comment_end is) ∙ h)
 ]
 
--- no end begins at a character of an inside
+-- no end begins at a code point of an inside
 no-front : (c : ℕ) (inside end rest : Text) → has_front (codes "*/") (c ∷ inside) ≡ false
     → IsEnd (codes "*/") end rest → has_front (codes "*/") (c ∷ (inside ++ (end ++ rest))) ≡ false
 no-front c (d ∷ inside) end rest f e = f
@@ -108,7 +108,7 @@ insides (c ∷ cs) = elim (cases_Bool (has_front (codes "*/") (c ∷ cs))) [
       }
 ]
 
--- what ends a comment stands behind its inside
+-- what ends a comment is after its inside
 end-within : (end rest : Text) → IsEnd (codes "*/") end rest
     → length end ≤ length (comment_end (end ++ rest))
 end-within end rest (inl e) =

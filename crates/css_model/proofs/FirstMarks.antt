@@ -1,4 +1,4 @@
--- The first piece where a text begins with `<!--`, `#`, `@` or a character alone.
+-- The first piece of a text that begins with `<!--`, `#`, `@` or a single code point.
 use Rattle.std.proofs.Common.{◌≡◌, ◌⊎◌, ◌∙◌, sym, ap, refl, subst, ℕ, suc, pred, ◌≤◌, ◌==◌, List, [], ◌∷◌, ◌++◌, length, drop, Bool, true, false, ◌&&◌, ◌||◌, not, arith, eqb-true, inl, inr}
 use Rattle.std.proofs.lemmas.Bool.{cases_Bool, true≢false, false≢true, cond_both}
 use Rattle.std.specs.Prelude.{codes, if◌then◌else◌}
@@ -23,7 +23,7 @@ use Rattle.css_model.proofs.Longest.{comments, whites, quotes, numbers, names, c
 use Rattle.css_model.proofs.FirstStrings.{parts-within}
 use Rattle.css_model.proofs.FirstComments.{front-is}
 
--- no whitespace, quote, comment, number, `-->` or name stands in front
+-- no whitespace, quote, comment, number, `-->` or name is in front
 pub record Others (cs : Text) : Type 0 where
   pub comment : has_front (codes "/*") cs ≡ false
   pub white : begins is_whitespace cs ≡ false
@@ -45,7 +45,7 @@ bounds-others cs k o d h a cdos = d
 bounds-others cs k o d h a hashes = h
 bounds-others cs k o d h a ats = a
 
--- one character is no other
+-- a code point is not two
 not-both : (c d e : ℕ) → d == e ≡ false → c == d ≡ true → c == e ≡ false
 not-both c d e n t = subst (λ x. x == e ≡ false) (sym (eqb-true c d t)) n
 
@@ -67,7 +67,7 @@ cdo-first c cs o t =
 
 -- ---- `#` and `@`
 
--- a name behind a mark
+-- a name after a mark
 marked-within : (mark name s tail behind cs : Text) (c : ℕ) (is_id : Bool) (d : ℕ) → s ≡ (d ∷ []) ++ tail
     → s ++ behind ≡ c ∷ cs → IsName name is_id tail behind
     → length s ≤ suc (length (parts_text (parts_in InName cs)))
@@ -140,7 +140,7 @@ at-first c cs o d t n =
           (inl (not-both c 64 35 refl t)) (inr (at-bound c cs)));
     }
 
--- ---- a character alone
+-- ---- a single code point
 
 no-digit : (c : ℕ) (cs : Text) → would_start_number (c ∷ cs) ≡ false → is_digit c ≡ false
 no-digit c cs n = elim (cases_Bool (is_digit c)) [

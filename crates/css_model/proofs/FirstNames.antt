@@ -77,7 +77,7 @@ names-plain cs k ne l = (
       ∙ ne))),
 )
 
--- the head of a url stands there, and no quote behind it
+-- the head of a url is there, and no quote after it
 pub url-there : (head inside ds cs : Text) → UrlHeaded head inside cs
     → after_parts (parts_in InName cs) cs ≡ open_round ∷ ds → quote_follows inside ≡ false
     → is_url_name (meanings InName (parts_in InName cs)) && not (quote_follows ds) ≡ true
@@ -162,9 +162,9 @@ names-url cs ds b yes' =
           omega (arith, l)),
     )
 
--- ---- other classes
+-- ---- other types
 
--- no whitespace, quote, comment, number or `-->` stands in front
+-- no whitespace, quote, comment, number or `-->` is in front
 pub record Named (cs : Text) : Type 0 where
   pub comment : has_front (codes "/*") cs ≡ false
   pub white : begins is_whitespace cs ≡ false

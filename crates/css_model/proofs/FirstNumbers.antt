@@ -19,7 +19,7 @@ one_in-most test (c ∷ cs) =
     cond_both (test c) (c ∷ []) [] (λ xs. is_at_most_one test xs ≡ true) (λ t. both (test c) true t refl)
     (λ f. refl)
 
--- behind the sign stands what begins a number
+-- after the sign is what begins a number
 behind-sign : (cs : Text) → would_start_number cs ≡ true
     → begins_unsigned (drop (length (one_in is_sign cs)) cs) ≡ true
 behind-sign [] h = absurd (false≢true h)
@@ -32,7 +32,7 @@ behind-sign (c ∷ cs) h = elim (cases_Bool (is_sign c)) [
 
 -- ---- the exponent
 
--- behind the sign of an exponent stands a digit
+-- after the sign of an exponent is a digit
 pub behind-exponent_sign : (cs : Text) → begins_signed_digit cs ≡ true
     → begins is_digit (drop (length (one_in is_sign cs)) cs) ≡ true
 behind-exponent_sign [] h = absurd (false≢true h)
@@ -53,7 +53,7 @@ pub run-some : (test : ℕ → Bool) (cs : Text) → begins test cs ≡ true →
 run-some test [] h = absurd (false≢true h)
 run-some test (c ∷ cs) h = ap is_empty (pick-true (test c) (c ∷ run_in test cs) [] h)
 
--- an exponent and what stands behind it
+-- an exponent and what is after it
 record Exponent (w : Numeral) (cs : Text) : Type 0 where
   rest : Text
   joins : exponent_text w ++ rest ≡ cs
@@ -166,7 +166,7 @@ numeral-unjoined w rest =
     ∙ ap (λ xs. w.sign ++ xs) (append_assoc w.integer (fraction_text w.fraction ++ exponent_text w) rest
     ∙ ap (λ xs. w.integer ++ xs) (append_assoc (fraction_text w.fraction) (exponent_text w) rest))
 
--- the number in front of a text, and what stands behind it
+-- the number in front of a text, and what is after it
 pub record Numbers (w : Numeral) (cs : Text) : Type 0 where
   pub rest : Text
   pub joins : numeral_text w ++ rest ≡ cs

@@ -59,7 +59,7 @@ comment-there c cs t =
 
 -- ---- any text
 
--- no whitespace, quote or comment stands in front, and a number does
+-- no whitespace, quote or comment is in front, and a number is
 pub record Numbered (cs : Text) : Type 0 where
   pub white : begins is_whitespace cs ≡ false
   pub quote : begins is_quote cs ≡ false

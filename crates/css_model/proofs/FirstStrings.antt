@@ -7,8 +7,8 @@ use Rattle.std.specs.Prelude.{if◌then◌else◌}
 use Rattle.css_model.specs.declared.place.Place.{Place}
 use Rattle.css_model.specs.Classes.{Text, tab, newline, space, double_quote, single_quote, backslash, is_newline, is_hex_digit, is_whitespace, is_quote, is_empty}
 use Rattle.css_model.specs.declared.token.TokenType.TheVariants.{String, BadString, Whitespace}
-use Rattle.css_model.specs.declared.place.Place.TheVariants.{InName, InString}
-use Rattle.css_model.specs.Parts.{Part, itself, escaped, escaped_newline, part_text, parts_text, AreParts, meanings, may_stand, would_start_ident}
+use Rattle.css_model.specs.declared.place.Place.TheVariants.{InString}
+use Rattle.css_model.specs.Parts.{Part, itself, escaped, escaped_newline, part_text, parts_text, AreParts, meanings, may_stand}
 use Rattle.css_model.specs.Spellings.{IsEnd}
 use Rattle.css_model.specs.TokenList.{Piece, token, piece_text}
 use Rattle.css_model.specs.inner.Fronts.{one_in, run_in, hex_escape_in, escape_in, part_in, parts_in, after_parts}
@@ -59,7 +59,7 @@ white-first c cs h =
 
 -- ---- parts up to a mark
 
--- parts, and the mark behind them if it is there
+-- parts, and the mark after them if it is there
 abbrev pub closed_text : Place → ℕ → Text → Text
 closed_text place m cs =
     parts_text (parts_in place cs) ++ one_in (λ d. d == m) (after_parts (parts_in place cs) cs)
@@ -178,7 +178,7 @@ escape-in-string quote (d ∷ cs) = elim (cases_Bool (is_newline d)) [
       ]
 ]
 
--- what stops the parts is no part that may stand here
+-- what stops the parts may not stand here
 pub stop-allowed : (place : Place) (d : ℕ) (ds : Text) → parts_in place (d ∷ ds) ≡ []
     → may_stand place (part_in d ds) ≡ false
 stop-allowed place d ds none = elim (cases_Bool (may_stand place (part_in d ds))) [
@@ -190,7 +190,7 @@ stop-allowed place d ds none = elim (cases_Bool (may_stand place (part_in d ds))
   | inr f ↦ f
 ]
 
--- what stops a string that is no quote is a newline
+-- what stops a string and is not a quote is a newline
 string-stopped : (quote d : ℕ) (ds : Text) → parts_in (InString quote) (d ∷ ds) ≡ [] → d == quote ≡ false
     → is_newline d ≡ true
 string-stopped quote d ds none f =

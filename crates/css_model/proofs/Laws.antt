@@ -7,7 +7,7 @@ use Rattle.css_model.specs.Preprocessing.{preprocessed}
 use Rattle.css_model.specs.TokenList.{Piece, piece_text, pieces_text, IsPiece, ArePieces, IsTokenList}
 use Rattle.css_model.specs.inner.Pieces.{first_piece, pieces_after, pieces, tokens}
 
--- a piece of the definition stands in front of a text, and no longer one does
+-- a piece by the definition is in front of a text, and no longer one is
 pub record IsFirst (p : Piece) (cs : Text) : Type 0 where
   pub rest : Text
   pub joins : piece_text p ++ rest ≡ cs
@@ -40,7 +40,7 @@ pub record Cut (ps : List Piece) (cs : Text) : Type 0 where
   pub joins : pieces_text ps ≡ cs
   pub are : ArePieces ps
 
--- behind a first piece stands what is left of the text
+-- after a first piece is what is left of the text
 pub behind-first : (s rest : Text) (c : ℕ) (cs : Text) → s ++ rest ≡ c ∷ cs → 1 ≤ length s
     → drop (pred (length s)) cs ≡ rest
 behind-first [] rest c cs e l = absurd (omega (arith, l))

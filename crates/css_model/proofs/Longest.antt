@@ -1,11 +1,11 @@
--- No longer piece stands in front of a text, where none of any class does.
+-- No longer piece is in front of a text, where none of any type is.
 use Rattle.std.proofs.Common.{◌≡◌, ◌⊎◌, ◌∙◌, sym, ap, refl, subst, ℕ, zero, suc, ◌<◌, ◌≤◌, ◌==◌, List, [], ◌∷◌, ◌++◌, length, Bool, true, false, ◌&&◌, ◌||◌, not, arith, inl, inr}
 use Rattle.std.specs.List.{list_all}
 use Rattle.std.proofs.lemmas.Bool.{true≢false}
 use Rattle.std.specs.Prelude.{codes, get_or}
 use Rattle.css_model.specs.declared.place.Place.TheVariants.{InName}
 use Rattle.css_model.specs.Classes.{Text, number_sign, solidus, hyphen, full_stop, less_than, commercial_at, backslash, is_digit, is_ident_char, is_sign, is_whitespace, is_quote, begins, has_front}
-use Rattle.css_model.specs.Parts.{Part, itself, may_stand, would_start_ident}
+use Rattle.css_model.specs.Parts.{itself, may_stand, would_start_ident}
 use Rattle.css_model.specs.declared.token.Number.{Number as NumberValue}
 use Rattle.css_model.specs.declared.token.TokenType.{TokenType}
 use Rattle.css_model.specs.declared.token.TokenType.TheVariants.{Ident, Function, AtKeyword, Hash, String, BadString, Url, BadUrl, Delim, Number, Percentage, Dimension, Whitespace, Cdo, Cdc, Colon, Semicolon, Comma, Opening, Closing}
@@ -16,7 +16,7 @@ use Rattle.css_model.proofs.Tests.{and-left, and-right, or-cases, or-none, or-fa
 use Rattle.css_model.proofs.PartLemmas.{parts_in-stop}
 use Rattle.css_model.proofs.Demands.{begins_name, demands, piece-demands}
 
--- classes of which each piece demands the same of the text
+-- groups of types that demand the same of the text
 pub data Group : Type 0 where
   comments : Group
   whites : Group
@@ -39,7 +39,7 @@ test cdos cs = has_front (codes "<!--") cs
 test hashes cs = begins (λ c. c == 35) cs
 test ats cs = begins (λ c. c == 64) cs
 
--- no piece of these classes in front of the text is longer than k
+-- no piece of this group in front of the text is longer than k
 abbrev pub Bound : Group → Text → ℕ → Type 0
 Bound comments cs k = (s behind : Text) → s ++ behind ≡ cs → IsComment s behind → length s ≤ k
 Bound whites cs k = (s behind : Text) → s ++ behind ≡ cs → Spells Whitespace s behind → length s ≤ k
@@ -63,7 +63,7 @@ Bound hashes cs k = (name : Text) (is_id : Bool) (s behind : Text) → s ++ behi
 Bound ats cs k = (name : Text) (s behind : Text) → s ++ behind ≡ cs → Spells (AtKeyword name) s behind
     → length s ≤ k
 
--- each class has no piece there, or none that is longer
+-- each group has no piece there, or none that is longer
 abbrev pub Bounds : Text → ℕ → Type 0
 Bounds cs k = (g : Group) → (test g cs ≡ false) ⊎ Bound g cs k
 

@@ -1,4 +1,4 @@
--- A number of the definition is the one that is computed where nothing behind it goes on with it,
+-- A number of the definition is the one that is computed where nothing after it goes on with it,
 -- and is no longer in any case.
 use Rattle.std.proofs.Common.{◌≡◌, ◌∙◌, sym, ap, refl, subst, ℕ, ◌==◌, [], ◌∷◌, ◌++◌, length, drop, true, false, ◌&&◌, ◌||◌, not, append_assoc, eqb-true, inl, inr}
 use Rattle.std.proofs.lemmas.Bool.{true≢false, false≢true}
@@ -21,7 +21,7 @@ sign-is [] cs s f = one_in-none is_sign cs f
 sign-is (c ∷ []) cs s f = pick-true (is_sign c) (c ∷ []) [] (and-left (is_sign c) true s)
 sign-is (c ∷ d ∷ ds) cs s f = absurd (false≢true (and-right (is_sign c) false s))
 
--- behind the sign of a number of the definition
+-- after the sign of a number of the definition
 pub behind-sign-is : (w : Numeral) (rest : Text) → IsNumeral w
     → numeral_in (numeral_text w ++ rest)
     ≡ with_integer w.sign (w.integer ++ (fraction_text w.fraction ++ (exponent_text w ++ rest)))
@@ -149,7 +149,7 @@ exponent-is s w f (m ∷ []) es digits rest h d e =
     ∙ ap made (run_in-is is_digit digits rest a d)
 exponent-is s w f (m ∷ m2 ∷ ms) es digits rest h d e = absurd (false≢true (and-right (is_e m) false h))
 
--- ---- the whole number
+-- ---- all of the number
 
 pub fraction-is : (f rest : Text) → list_all is_digit f ≡ true → begins is_digit rest ≡ false
     → begins (λ c. c == full_stop) rest ≡ false → fraction_in (fraction_text f ++ rest) ≡ f

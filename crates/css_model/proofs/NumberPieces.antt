@@ -25,7 +25,7 @@ use Rattle.css_model.proofs.NumberSizes.{numeral-length, numeral-within, fractio
 use Rattle.css_model.proofs.Units.{number-no_name, unit-split}
 use Rattle.css_model.proofs.FirstPieces.{Numbered, NumbersAreFirst, pieces-first}
 
--- what stands behind the number in front of a text
+-- what is after the number in front of a text
 abbrev pub behind_numeral : Text → Text
 behind_numeral cs = drop (length (numeral_text (numeral_in cs))) cs
 
@@ -92,7 +92,7 @@ numbers-bound cs k l percent unit = (
       ]),
 )
 
--- ---- other classes
+-- ---- other types
 
 pub number-char : (c d : ℕ) (cs : Text) → would_start_number (c ∷ cs) ≡ true
     → would_start_number (d ∷ cs) ≡ false → c == d ≡ false

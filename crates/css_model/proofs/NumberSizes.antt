@@ -49,7 +49,7 @@ exponent-none [] (g ∷ gs) digits h e = absurd (false≢true h)
 exponent-none (m ∷ ms) es digits h e = let z : length (m ∷ ms) ≡ 0 = ap length e in
     absurd (omega (arith, z))
 
--- with digits of the whole part alone in front
+-- with only digits of the integer part in front
 whole-size : (s w rest : Text) → list_all is_digit w ≡ true
     → length s + length w ≤ length (numeral_text (with_integer s (w ++ rest)))
 whole-size s w rest a =
@@ -67,14 +67,14 @@ whole-size s w rest a =
     with_exponent-length s run (fraction_in v) (drop (length (fraction_text (fraction_in v))) v) in
     rw all (omega (arith, l))
 
--- the whole part is known
+-- the integer part is known
 whole-known : (s w v : Text) → list_all is_digit w ≡ true → begins is_digit v ≡ false
     → with_integer s (w ++ v) ≡ with_fraction s w v
 whole-known s w v a d =
     ap (λ xs. with_fraction s xs (drop (length xs) (w ++ v))) (run_in-is is_digit w v a d)
     ∙ ap (with_fraction s w) (drop-append_seam w v)
 
--- with digits behind the point in front
+-- with digits after the point in front
 fraction-front : (s w x : Text) (y : ℕ) (rest : Text) → list_all is_digit (y ∷ x) ≡ true
     → length s + (length w + suc (length (y ∷ x))) ≤ length
     (numeral_text (with_fraction s w (fraction_text (y ∷ x) ++ rest)))

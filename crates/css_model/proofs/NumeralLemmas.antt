@@ -7,7 +7,7 @@ use Rattle.css_model.specs.Numerals.{Numeral, fraction_text, exponent_text, nume
 use Rattle.css_model.specs.inner.Fronts.{begins_unsigned, would_start_number}
 use Rattle.css_model.proofs.Tests.{and-left, and-right, or-left, or-cases, pick-true, pick-false}
 
--- a sign is no digit
+-- a sign is not a digit
 pub digit-no_sign : (d : ℕ) → is_digit d ≡ true → is_sign d ≡ false
 digit-no_sign d h = elim (cases_Bool (is_sign d)) [
   | inl t ↦ elim (or-cases (d == 43) (d == 45) t) [
@@ -17,7 +17,7 @@ digit-no_sign d h = elim (cases_Bool (is_sign d)) [
   | inr f ↦ f
 ]
 
--- digits before a point or behind one
+-- digits before a point or after one
 pub record Unsigned (cs : Text) : Type 0 where
   pub number : begins_unsigned cs ≡ true
   pub no_sign : begins is_sign cs ≡ false

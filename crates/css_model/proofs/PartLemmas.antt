@@ -54,7 +54,7 @@ pub one_in-none : (test : ℕ → Bool) (cs : Text) → begins test cs ≡ false
 one_in-none test [] f = refl
 one_in-none test (c ∷ cs) f = rw f refl
 
--- the whitespace behind a code
+-- the whitespace after a hex escape
 blank-is : (digits blank behind : Text) → is_at_most_one is_whitespace blank ≡ true
     → is_hex_escape_over digits blank behind ≡ true → one_in is_whitespace (blank ++ behind) ≡ blank
 blank-is digits [] behind b o =
@@ -125,7 +125,7 @@ pub parts_in-nil : (place : Place) → parts_in place [] ≡ []
 unfolding parts_after
 parts_in-nil place = refl
 
--- the first part, and those behind it
+-- the first part, and those after it
 pub parts_in-cons : (place : Place) (c : ℕ) (cs : Text) → may_stand place (part_in c cs) ≡ true
     → parts_in place (c ∷ cs)
     ≡ part_in c cs ∷ parts_in place (drop (pred (length (part_text (part_in c cs)))) cs)
@@ -162,7 +162,7 @@ parts_in-part place escaped_newline rest a h =
 parts_in-part place escape_at_end rest a h =
     parts_in-front place escape_at_end backslash rest rest refl (part_of-is escape_at_end rest h) a refl
 
--- parts of the definition stand in front, and then those of what is behind them
+-- parts of the definition are in front, and then those of what is after them
 pub parts_in-are : (place : Place) (parts : List Part) (behind : Text) → AreParts place parts behind
     → parts_in place (parts_text parts ++ behind) ≡ parts ++ parts_in place behind
 parts_in-are place [] behind h = refl
@@ -173,7 +173,7 @@ parts_in-are place (p ∷ parts) behind h =
 
 -- ---- the parts in front are those of the definition
 
--- the part that a text begins with, and what stands behind it
+-- the part that a text begins with, and what is after it
 record Part1 (p : Part) (c : ℕ) (cs : Text) : Type 0 where
   joins : part_text p ++ drop (pred (length (part_text p))) cs ≡ c ∷ cs
   is : IsPart p (drop (pred (length (part_text p))) cs)
@@ -240,7 +240,7 @@ hex_digits_in-some d cs h =
     subst (λ xs. 1 ≤ length xs) (sym (pick-true (is_hex_digit d) (d ∷ hex_digits_in 5 cs) [] h))
     (omega arith)
 
--- the code that stands in front of a hex digit and what is behind it
+-- the hex escape that begins with this digit
 code-part : (d : ℕ) (cs : Text) → is_hex_digit d ≡ true → Part1 (hex_escape_in (d ∷ cs)) backslash (d ∷ cs)
 code-part d cs h =
     let digits : Text = hex_digits_in 6 (d ∷ cs) in
@@ -286,13 +286,13 @@ part-part c cs = elim (cases_Bool (c == backslash)) [
       (record { joins = refl; is = f })
 ]
 
--- the parts in front, and what stands behind them
+-- the parts in front, and what is after them
 pub record Fronts (place : Place) (cs : Text) : Type 0 where
   pub joins : parts_text (parts_in place cs) ++ after_parts (parts_in place cs) cs ≡ cs
   pub are : AreParts place (parts_in place cs) (after_parts (parts_in place cs) cs)
   pub ends : parts_in place (after_parts (parts_in place cs) cs) ≡ []
 
--- one part more stands in front
+-- one part more is in front
 fronts-cons : (place : Place) (p : Part) (cs rest : Text) → part_text p ++ rest ≡ cs
     → may_stand place p ≡ true → IsPart p rest → Fronts place rest → Fronts place cs
 fronts-cons place p cs rest joins a h more =

@@ -1,4 +1,4 @@
--- The run of characters of one class in front of a text.
+-- The run of code points of one class in front of a text.
 use Rattle.std.proofs.Common.{◌≡◌, ap, refl, ℕ, ◌≤◌, [], ◌∷◌, ◌++◌, length, drop, Bool, true, false, arith, inl, inr}
 use Rattle.std.proofs.lemmas.Bool.{cases_Bool}
 use Rattle.std.specs.List.{list_all}
@@ -27,7 +27,7 @@ run_in-longest test (d ∷ s) rest a =
     run_in-longest test s rest (and-right (test d) (list_all test s) a) in
     rw here (omega (arith, more))
 
--- the run and what stands behind it
+-- the run and what is after it
 pub record Runs (test : ℕ → Bool) (cs : Text) : Type 0 where
   pub joins : run_in test cs ++ drop (length (run_in test cs)) cs ≡ cs
   pub passes : list_all test (run_in test cs) ≡ true

@@ -1,4 +1,4 @@
--- A number and the name behind it.
+-- A number and the name after it.
 use Rattle.std.proofs.Common.{◌≡◌, ◌⊎◌, ◌∙◌, sym, ap, refl, subst, ℕ, suc, ◌+◌, ◌≤◌, ◌==◌, List, [], ◌∷◌, ◌++◌, length, drop, true, false, ◌&&◌, ◌||◌, arith, length-append, eqb-true, inl, inr}
 use Rattle.std.proofs.lemmas.Bool.{cases_Bool, true≢false, false≢true, leb-true}
 use Rattle.std.specs.Prelude.{nat_le}
@@ -48,7 +48,7 @@ start-no_char c d f h =
           absurd (true≢false (sym (ap is_ident_start (sym (eqb-true c d t)) ∙ h) ∙ f))
     ]
 
--- neither a digit nor a point stands in front of an identifier
+-- an identifier begins with neither a digit nor a point
 pub ident-other : (parts : List Part) (rest : Text) → would_start_ident parts ≡ true
     → IsOther (parts_text parts ++ rest)
 ident-other [] rest h = absurd (false≢true h)

@@ -1,4 +1,4 @@
--- A url or bad url stands behind its head.
+-- A url or bad url after its head.
 use Rattle.std.proofs.Common.{◌≡◌, ◌∙◌, sym, ap, refl, subst, ◌+◌, ◌==◌, List, [], ◌∷◌, ◌++◌, length, drop, true, false, append_assoc, length-append, eqb-true, inl, inr}
 use Rattle.std.proofs.lemmas.Bool.{cases_Bool, true≢false, cond_both}
 use Rattle.std.proofs.Math.Seq.{drop-append_seam}
@@ -10,16 +10,16 @@ use Rattle.css_model.specs.Parts.{Part, itself, escaped, escaped_newline, parts_
 use Rattle.css_model.specs.Spellings.{is_url_name, IsEnd, IsName, IsUrlHead}
 use Rattle.css_model.specs.TokenList.{Piece, token, piece_text, IsPiece}
 use Rattle.css_model.specs.inner.Fronts.{one_in, run_in, hex_escape_in, escape_in, part_in, parts_in, after_parts}
-use Rattle.css_model.specs.inner.Pieces.{consume_bad_url_remnants, consume_url}
+use Rattle.css_model.specs.inner.Pieces.{after_white, after_url_parts, consume_bad_url_remnants, consume_url}
 use Rattle.css_model.proofs.Tests.{not-false, pick-true, pick-false}
 use Rattle.css_model.proofs.Runs.{Runs, runs}
 use Rattle.css_model.proofs.PartLemmas.{one_in-joins, parts_in-stop, Fronts, fronts}
 use Rattle.css_model.proofs.FirstStrings.{closed_text, parts-stopped, stop-allowed}
-use Rattle.css_model.proofs.Urls.{url-closed, after_white, after_url_parts, is_closed, url-computed}
+use Rattle.css_model.proofs.Urls.{url-closed, is_closed, url-computed}
 
 -- ---- heads
 
--- the parts of a name before `(`, and what stands behind it
+-- the parts of a name before `(`, and what is after it
 pub record Headed (parts : List Part) (inside cs : Text) : Type 0 where
   pub are : parts_in InName cs ≡ parts
   pub behind : after_parts (parts_in InName cs) cs ≡ open_round ∷ inside

@@ -1,4 +1,4 @@
--- Urls and bad urls, where they stand behind their head.
+-- Urls and bad urls, after their head.
 use Rattle.std.proofs.Common.{◌≡◌, ◌∙◌, sym, ap, refl, subst, ℕ, ◌==◌, List, [], ◌∷◌, ◌++◌, map, length, drop, Bool, true, false, ◌||◌, append_assoc, eqb-true, inl, inr}
 use Rattle.std.proofs.lemmas.Bool.{cases_Bool, true≢false, false≢true}
 use Rattle.std.proofs.Math.Seq.{drop-append_seam}
@@ -9,7 +9,8 @@ use Rattle.css_model.specs.Classes.{Text, backslash, open_round, close_round, is
 use Rattle.css_model.specs.declared.place.Place.TheVariants.{InUrl, InBadUrl}
 use Rattle.css_model.specs.Parts.{Part, itself, escaped, hex_escape, escaped_newline, escape_at_end, parts_text, IsPart, AreParts, may_stand}
 use Rattle.css_model.specs.Spellings.{IsEnd}
-use Rattle.css_model.specs.inner.Fronts.{run_in, escape_in, part_in, parts_in, after_parts}
+use Rattle.css_model.specs.inner.Fronts.{escape_in, part_in, parts_in, after_parts}
+use Rattle.css_model.specs.inner.Pieces.{after_white, after_url_parts}
 use Rattle.css_model.proofs.Tests.{and-left, and-right, or-cases, or-false-left, or-false-right, not-true, not-false, both, pick-false}
 use Rattle.css_model.proofs.Runs.{run_in-is}
 use Rattle.css_model.proofs.PartLemmas.{parts_in-stop}
@@ -50,7 +51,7 @@ closes_or_white c = (c == close_round) || (is_whitespace c || is_non_printable c
 abbrev no_url_char : ℕ → Bool
 no_url_char c = is_quote c || ((c == open_round) || closes_or_white c)
 
--- a code point of a url is no `)` and no whitespace
+-- a code point of a url is neither `)` nor whitespace
 record UrlChar (c : ℕ) : Type 0 where
   close : c == close_round ≡ false
   white : is_whitespace c ≡ false
@@ -89,7 +90,7 @@ are-append place (x ∷ xs) ys behind h k =
 bad_url-stop : (xs : Text) → parts_in InBadUrl (close_round ∷ xs) ≡ []
 bad_url-stop xs = parts_in-stop InBadUrl close_round xs refl
 
--- what stands of a url behind its head is what would stand of a bad url
+-- what is after the head of a url would be after that of a bad url
 pub url-closed : (before after end rest : Text) (parts : List Part) → list_all is_whitespace before ≡ true
     → AreParts InUrl parts (after ++ (end ++ rest)) → list_all is_whitespace after ≡ true
     → IsEnd (codes ")") end rest
@@ -123,12 +124,6 @@ pub bad_url-closed : (end rest : Text) (parts : List Part) → AreParts InBadUrl
 bad_url-closed end rest parts p e = closed-is InBadUrl close_round bad_url-stop parts end rest p e
 
 -- ---- what is a url by the computation
-
-abbrev pub after_white : Text → Text
-after_white cs = drop (length (run_in is_whitespace cs)) cs
-
-abbrev pub after_url_parts : Text → Text
-after_url_parts cs = after_parts (parts_in InUrl cs) cs
 
 abbrev pub is_closed : Text → Bool
 is_closed cs = is_empty cs || begins is_close_round cs
@@ -212,7 +207,7 @@ url-computed before after end rest (q ∷ parts) b p a e =
     ∙ (ap (λ xs. is_closed (after_white xs)) (after_url_parts-is (q ∷ parts) (after ++ cs) p none)
     ∙ (ap is_closed (after_white-is after cs a (end-no_white end rest e)) ∙ end-closed end rest e))
 
--- the parts of a url of the definition are those behind the first whitespace
+-- the parts of a url of the definition are those after the first whitespace
 pub url-parts : (before after end rest : Text) (parts : List Part) → list_all is_whitespace before ≡ true
     → AreParts InUrl parts (after ++ (end ++ rest)) → list_all is_whitespace after ≡ true
     → IsEnd (codes ")") end rest

@@ -55,29 +55,40 @@ consume_bad_url_remnants head cs =
     token BadUrl (head ++ (parts_text (parts_in InBadUrl cs)
     ++ one_in is_close_round (after_parts (parts_in InBadUrl cs) cs)))
 
--- the url of this head, whitespace, parts and whitespace, where `cs` is what is after them, or else
--- a bad url
-abbrev pub url_of_parts : Text → Text → Text → List Part → Text → Text → Piece
-url_of_parts head inside before parts after cs =
-    if is_empty cs || begins is_close_round cs
-    then token (Url (meanings InUrl parts))
-    (head ++ (before ++ (parts_text parts ++ (after ++ one_in is_close_round cs))))
+-- what is after the head of a url: whitespace, the parts of its value, whitespace, and what is left
+pub record UrlParts : Type 0 where
+  pub before : Text
+  pub parts : List Part
+  pub after : Text
+  pub left : Text
+
+-- the text after the whitespace in front
+abbrev pub after_white : Text → Text
+after_white cs = drop (length (run_in is_whitespace cs)) cs
+
+-- the text after the parts of a url in front
+abbrev pub after_url_parts : Text → Text
+after_url_parts cs = after_parts (parts_in InUrl cs) cs
+
+abbrev pub url_parts : Text → UrlParts
+url_parts inside = record {
+  before = run_in is_whitespace inside;
+  parts = parts_in InUrl (after_white inside);
+  after = run_in is_whitespace (after_url_parts (after_white inside));
+  left = after_white (after_url_parts (after_white inside));
+}
+
+-- the url of this head and what is after it, or else a bad url
+abbrev pub url_of_parts : Text → Text → UrlParts → Piece
+url_of_parts head inside url =
+    if is_empty url.left || begins is_close_round url.left
+    then token (Url (meanings InUrl url.parts))
+    (head ++ (url.before ++ (parts_text url.parts ++ (url.after ++ one_in is_close_round url.left))))
     else consume_bad_url_remnants head inside
-
--- the same, where `cs` is what is after the parts
-abbrev pub url_after_parts : Text → Text → Text → List Part → Text → Piece
-url_after_parts head inside before parts cs =
-    url_of_parts head inside before parts (run_in is_whitespace cs) (drop (length (run_in is_whitespace cs)) cs)
-
--- the same, where `cs` is what is after the first whitespace
-abbrev pub url_after_white : Text → Text → Text → Text → Piece
-url_after_white head inside before cs =
-    url_after_parts head inside before (parts_in InUrl cs) (after_parts (parts_in InUrl cs) cs)
 
 -- the url or bad url that begins with this head, where `inside` is what is after it
 abbrev pub consume_url : Text → Text → Piece
-consume_url head inside =
-    url_after_white head inside (run_in is_whitespace inside) (drop (length (run_in is_whitespace inside)) inside)
+consume_url head inside = url_of_parts head inside (url_parts inside)
 
 -- ---- identifiers (4.3.4)
 
