@@ -83,8 +83,13 @@ close_curly = 125
 abbrev pub replacement : ℕ
 replacement = 65533
 
+-- U+10FFFF
+abbrev pub last_code_point : ℕ
+last_code_point = 1114111
+
 -- ---- classes
 
+-- from the lowest to the highest of a range
 abbrev pub is_between : ℕ → ℕ → ℕ → Bool
 is_between low high c = nat_le low c && nat_le c high
 
@@ -112,6 +117,11 @@ is_ident_char c = is_ident_start c || (is_digit c || (c == hyphen))
 abbrev pub is_non_printable : ℕ → Bool
 is_non_printable c = nat_le c 8 || ((c == 11) || (is_between 14 31 c || (c == 127)))
 
+-- a surrogate: U+D800 to U+DFFF
+abbrev pub is_surrogate : ℕ → Bool
+is_surrogate c = is_between 55296 57343 c
+
+-- a newline: U+000A, after preprocessing
 abbrev pub is_newline : ℕ → Bool
 is_newline c = c == newline
 
@@ -119,6 +129,7 @@ is_newline c = c == newline
 abbrev pub is_whitespace : ℕ → Bool
 is_whitespace c = is_newline c || ((c == tab) || (c == space))
 
+-- `"` or `'`
 abbrev pub is_quote : ℕ → Bool
 is_quote c = (c == double_quote) || (c == single_quote)
 

@@ -19,6 +19,7 @@ mutual
     no_components : Components
     component : Component → Components → Components
 
+-- the closing token, if there is one
 abbrev pub close_tokens : Option Token → List Token
 close_tokens None = []
 close_tokens (Some t) = t ∷ []
@@ -42,6 +43,7 @@ opened_by (Function name) = Some Round
 opened_by (Opening b) = Some b
 opened_by other = None
 
+-- both are of one kind
 abbrev pub is_same_bracket : Bracket → Bracket → Bool
 is_same_bracket Round Round = true
 is_same_bracket Square Square = true

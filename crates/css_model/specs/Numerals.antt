@@ -20,9 +20,11 @@ abbrev pub fraction_text : Text → Text
 fraction_text [] = []
 fraction_text (c ∷ cs) = full_stop ∷ c ∷ cs
 
+-- the exponent, with its mark and sign
 abbrev pub exponent_text : Numeral → Text
 exponent_text w = w.mark ++ (w.exponent_sign ++ w.exponent)
 
+-- how the number is written
 abbrev pub numeral_text : Numeral → Text
 numeral_text w = w.sign ++ (w.integer ++ (fraction_text w.fraction ++ exponent_text w))
 
@@ -60,13 +62,15 @@ abbrev pub decimal_after : ℕ → Text → ℕ
 decimal_after n [] = n
 decimal_after n (c ∷ cs) = decimal_after (n * 10 + (c - 48)) cs
 
+-- this sign is `-`
 abbrev pub is_minus : Text → Bool
 is_minus sign = begins (λ c. c == hyphen) sign
 
--- by how many places the exponent moves the point to the right, and to the left
+-- by how many places the exponent moves the point to the right
 abbrev pub places_right : Numeral → ℕ
 places_right w = if is_minus w.exponent_sign then 0 else decimal_after 0 w.exponent
 
+-- by how many places it moves it to the left
 abbrev pub places_left : Numeral → ℕ
 places_left w = if is_minus w.exponent_sign then decimal_after 0 w.exponent else 0
 
@@ -79,6 +83,7 @@ magnitude w =
 abbrev pub value_of : Numeral → ℤ
 value_of w = clamped_millionths (if is_minus w.sign then neg_ℤ (pos (magnitude w)) else pos (magnitude w))
 
+-- the number that is written so
 abbrev pub number_of : Numeral → Number
 number_of w = record {
   millionths = value_of w;

@@ -4,7 +4,7 @@ use Rattle.std.specs.Prelude.{◌≡◌, ℕ, ◌+◌, ◌*◌, ◌-◌, ◌≤�
 use Rattle.std.specs.List.{list_all}
 use Rattle.css_model.specs.declared.place.Place.{Place}
 use Rattle.css_model.specs.declared.place.Place.TheVariants.{InName, InString, InUrl, InBadUrl}
-use Rattle.css_model.specs.Classes.{Text, newline, backslash, hyphen, open_round, close_round, replacement, is_between, is_digit, is_hex_digit, is_ident_start, is_ident_char, is_non_printable, is_newline, is_whitespace, is_quote, begins, is_at_most_one}
+use Rattle.css_model.specs.Classes.{Text, newline, backslash, hyphen, open_round, close_round, replacement, last_code_point, is_digit, is_hex_digit, is_ident_start, is_ident_char, is_non_printable, is_surrogate, is_newline, is_whitespace, is_quote, begins, is_at_most_one}
 
 -- a code point that stands for itself, or an escape
 pub data Part : Type 0 where
@@ -27,6 +27,7 @@ part_text (hex_escape digits blank) = backslash ∷ (digits ++ blank)
 part_text escaped_newline = backslash ∷ newline ∷ []
 part_text escape_at_end = backslash ∷ []
 
+-- how parts are spelled, one after another
 abbrev pub parts_text : List Part → Text
 parts_text parts = flat_map part_text parts
 
@@ -86,6 +87,7 @@ AreParts place (p ∷ parts) rest =
 
 -- ---- what they stand for
 
+-- the value of a hex digit, of either case
 abbrev pub hex_digit_value : ℕ → ℕ
 hex_digit_value c = if is_digit c then c - 48 else (if nat_le c 70 then c - 55 else c - 87)
 
@@ -96,7 +98,7 @@ hex_value_after n (c ∷ cs) = hex_value_after (n * 16 + hex_digit_value c) cs
 
 -- the code point of this number; zero, a surrogate and a number past U+10FFFF give U+FFFD
 abbrev pub code_point_of : ℕ → ℕ
-code_point_of n = if (n == 0) || (is_between 55296 57343 n || nat_lt 1114111 n) then replacement else n
+code_point_of n = if (n == 0) || (is_surrogate n || nat_lt last_code_point n) then replacement else n
 
 -- a backslash at the end of the text stands for nothing in a string, and for U+FFFD elsewhere
 abbrev pub meaning_at_end : Place → Text
@@ -111,6 +113,7 @@ meaning place (hex_escape digits blank) = code_point_of (hex_value_after 0 digit
 meaning place escaped_newline = []
 meaning place escape_at_end = meaning_at_end place
 
+-- the code points that parts stand for
 abbrev pub meanings : Place → List Part → Text
 meanings place parts = flat_map (meaning place) parts
 

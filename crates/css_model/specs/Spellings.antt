@@ -134,6 +134,7 @@ singles =
     ∷ (open_square, Opening Square) ∷ (close_square, Closing Square)
     ∷ (open_curly, Opening Curly) ∷ (close_curly, Closing Curly) ∷ []
 
+-- the type of a code point of that table
 abbrev pub single_of : ℕ → Option TokenType
 single_of c = lookup (λ d. c == d) singles
 

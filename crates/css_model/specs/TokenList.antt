@@ -12,10 +12,12 @@ pub data Piece : Type 0 where
   comment : (spelling : Text) → Piece
   token : (token_type : TokenType) (spelling : Text) → Piece
 
+-- the spelling of a piece
 abbrev pub piece_text : Piece → Text
 piece_text (comment s) = s
 piece_text (token token_type s) = s
 
+-- the spellings of pieces, one after another
 abbrev pub pieces_text : List Piece → Text
 pieces_text pieces = flat_map piece_text pieces
 

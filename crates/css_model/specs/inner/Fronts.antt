@@ -48,6 +48,7 @@ parts_after place zero (c ∷ cs) =
     then part_in c cs ∷ parts_after place (pred (length (part_text (part_in c cs)))) cs
     else []
 
+-- the parts in front, as long as they may stand at this place
 abbrev pub parts_in : Place → Text → List Part
 parts_in place cs = parts_after place 0 cs
 
@@ -88,9 +89,11 @@ with_exponent s i f (c ∷ cs) =
     }
     else record { sign = s; integer = i; fraction = f; mark = []; exponent_sign = []; exponent = [] }
 
+-- the number of this sign and integer part, with the fraction and exponent in front of the text
 abbrev pub with_fraction : Text → Text → Text → Numeral
 with_fraction s i cs = with_exponent s i (fraction_in cs) (drop (length (fraction_text (fraction_in cs))) cs)
 
+-- the number of this sign, with the rest of it in front of the text
 abbrev pub with_integer : Text → Text → Numeral
 with_integer s cs = with_fraction s (run_in is_digit cs) (drop (length (run_in is_digit cs)) cs)
 

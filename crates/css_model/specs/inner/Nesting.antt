@@ -9,6 +9,7 @@ use Rattle.css_model.specs.declared.token.TokenType.{TokenType}
 use Rattle.css_model.specs.declared.token.TokenType.TheVariants.{Function}
 use Rattle.css_model.specs.Components.{Component, preserved, simple_block, function_block, Components, no_components, component, opened_by, closes}
 
+-- this is a function
 abbrev pub is_function : TokenType → Bool
 is_function (Function name) = true
 is_function other = false
@@ -30,6 +31,7 @@ innermost (head ∷ outer) = opened_by head.token_type
 pub data Levels : Type 0 where
   levels : (contents : Components) (outside : List (Token × Components)) → Levels
 
+-- what is in the innermost bracket
 abbrev pub contents_of : Levels → Components
 contents_of (levels contents outside) = contents
 

@@ -70,6 +70,7 @@ after_white cs = drop (length (run_in is_whitespace cs)) cs
 abbrev pub after_url_parts : Text → Text
 after_url_parts cs = after_parts (parts_in InUrl cs) cs
 
+-- the parts of a url after its head
 abbrev pub url_parts : Text → UrlParts
 url_parts inside = record {
   before = run_in is_whitespace inside;
@@ -113,14 +114,17 @@ numeric_of_parts w unit cs =
     then token (Percentage (number_of w)) (numeral_text w ++ codes "%")
     else token (Number (number_of w)) (numeral_text w ++ []))
 
+-- the number, percentage or dimension of this number, where the text is what is after it
 abbrev pub consume_numeric : Numeral → Text → Piece
 consume_numeric w cs = numeric_of_parts w (parts_in InName cs) cs
 
 -- ---- single code points
 
+-- the type of a single code point
 abbrev pub single_type : ℕ → TokenType
 single_type c = unwrap_or (single_of c) (Delim c)
 
+-- the piece of a single code point
 abbrev pub single_piece : ℕ → Piece
 single_piece c = token (single_type c) (c ∷ [])
 
