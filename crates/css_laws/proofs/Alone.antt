@@ -15,7 +15,7 @@ use Rattle.css_model.specs.inner.Pieces.{single_type}
 use Rattle.css_model.proofs.Tests.{and-left, and-right, or-cases, or-false-left, or-false-right}
 use Rattle.std.specs.Option.{is_some, unwrap_or}
 use Rattle.std.specs.Prelude.{Option, Some, None}
-use Rattle.css_model.proofs.Singles.{NoOther, single-no_other, single-is}
+use Rattle.css_laws.proofs.SingleTypes.{NoOther, single-no_other, single-is}
 use Rattle.css_model.proofs.FirstNames.{some-text}
 use Rattle.css_model.proofs.FirstNumbers.{numeral-unjoined}
 use Rattle.css_model.proofs.FirstStrings.{first_or}

@@ -1,3 +1,4 @@
+pub mod SingleTypes
 pub mod Meets
 pub mod Branches
 pub mod NamesAlike
