@@ -4,7 +4,7 @@ use Rattle.std.proofs.lemmas.Option.{none-some}
 use Rattle.std.proofs.lemmas.Bool.{false≢true}
 use Rattle.page_model.specs.Document.{Node, element, text, Nodes, no_nodes, node, find, height}
 use Rattle.page_model.specs.Edits.{level, level_in}
-use Rattle.page_model.specs.Limits.{max_depth}
+use Rattle.page_model.specs.declared.limits.TheConstants.{MAX_DEPTH}
 use Rattle.page_model.proofs.Members.{or-found}
 use Rattle.page_model.proofs.Levels.{level-element, level-text, level-found, level-height}
 use Rattle.dom_arena.specs.declared.slot.Slot.{Slot}
@@ -61,23 +61,23 @@ level-positive i l (element id name attributes kids) e = elim (level-element (i 
 ]
 level-positive i l (text id cs) e = let k = level-text (i == id) l e in omega (arith, k.1)
 
-level-of : (slots : List (Option Slot)) (root : Node) (i l : ℕ) → Holds slots None 0 root → height root ≤ max_depth → level i root ≡ Some l → suc (parents_above slots (max_depth - 1) i) ≡ l
+level-of : (slots : List (Option Slot)) (root : Node) (i l : ℕ) → Holds slots None 0 root → height root ≤ MAX_DEPTH → level i root ≡ Some l → suc (parents_above slots (MAX_DEPTH - 1) i) ≡ l
 level-of slots root i zero h low e = absurd (let some : 0 < 0 = level-positive i 0 root e in omega (arith, some))
 level-of slots root i (suc l) h low e =
     let within : suc l ≤ height root = level-height i (suc l) root e in
-    let fuel : max_depth - 1 ≡ l + (max_depth - 1 - l) = omega (arith, within, low) in
-    ap (λ k. suc (parents_above slots k i)) fuel ∙ ap suc (root-above slots 0 i l (max_depth - 1 - l) root h e)
+    let fuel : MAX_DEPTH - 1 ≡ l + (MAX_DEPTH - 1 - l) = omega (arith, within, low) in
+    ap (λ k. suc (parents_above slots k i)) fuel ∙ ap suc (root-above slots 0 i l (MAX_DEPTH - 1 - l) root h e)
 
-level-cases : (slots : List (Option Slot)) (root : Node) (i : ℕ) (o : Option ℕ) → o ≡ level i root → is_some o ≡ true → Holds slots None 0 root → height root ≤ max_depth → suc (parents_above slots (max_depth - 1) i) ≡ unwrap_or o 0
+level-cases : (slots : List (Option Slot)) (root : Node) (i : ℕ) (o : Option ℕ) → o ≡ level i root → is_some o ≡ true → Holds slots None 0 root → height root ≤ MAX_DEPTH → suc (parents_above slots (MAX_DEPTH - 1) i) ≡ unwrap_or o 0
 level-cases slots root i (Some l) e s h low = level-of slots root i l h low (sym e)
 level-cases slots root i None e s h low = absurd (false≢true s)
 
-low-cases : (i : ℕ) (root : Node) (o : Option ℕ) → o ≡ level i root → height root ≤ max_depth → unwrap_or o 0 ≤ max_depth
+low-cases : (i : ℕ) (root : Node) (o : Option ℕ) → o ≡ level i root → height root ≤ MAX_DEPTH → unwrap_or o 0 ≤ MAX_DEPTH
 low-cases i root (Some l) e low = let within : l ≤ height root = level-height i l root (sym e) in omega (arith, within, low)
 low-cases i root None e low = omega arith
 
-pub table-level : (slots : List (Option Slot)) (root : Node) (i : ℕ) → IsTable slots root → is_some (find i root) ≡ true → suc (parents_above slots (max_depth - 1) i) ≡ unwrap_or (level i root) 0
+pub table-level : (slots : List (Option Slot)) (root : Node) (i : ℕ) → IsTable slots root → is_some (find i root) ≡ true → suc (parents_above slots (MAX_DEPTH - 1) i) ≡ unwrap_or (level i root) 0
 table-level slots root i t f = level-cases slots root i (level i root) refl (level-found i root ∙ f) t.held t.low
 
-pub table-level-low : (slots : List (Option Slot)) (root : Node) (i : ℕ) → IsTable slots root → unwrap_or (level i root) 0 ≤ max_depth
+pub table-level-low : (slots : List (Option Slot)) (root : Node) (i : ℕ) → IsTable slots root → unwrap_or (level i root) 0 ≤ MAX_DEPTH
 table-level-low slots root i t = low-cases i root (level i root) refl t.low

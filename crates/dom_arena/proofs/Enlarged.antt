@@ -4,7 +4,8 @@ use Rattle.std.specs.Prelude.{nat_lt}
 use Rattle.std.proofs.lemmas.Bool.{cases_lt, false≢true, ltb-false}
 use Rattle.page_model.specs.Trees.{Tree, size, depth}
 use Rattle.page_model.specs.Document.{Document, Node, id_of, kids_of, ids_of, name_of, name_at, ids, find, height, node_count, numbered, IsAmong}
-use Rattle.page_model.specs.Refusals.{no_node, not_element, bad_index, first_of}
+use Rattle.page_model.specs.Refusals.{first_of}
+use Rattle.page_model.specs.declared.cause.Cause.TheVariants.{NoNode, NotElement, BadIndex}
 use Rattle.page_model.specs.Edits.{inserted, level, child_count, insert_refusals, tree_refusals}
 use Rattle.page_model.proofs.Members.{among-top, among-find, find-among, find-part, find-distinct, some-is}
 use Rattle.page_model.proofs.Parents.{kid-below}
@@ -50,11 +51,11 @@ is_some-not_none None h = absurd (false≢true (sym h))
 pub may-insert : (parent at : ℕ) (t : Tree) (d : Document) → first_of (insert_refusals parent at t d) ≡ None → MayInsert parent at t d.root d.next_id
 may-insert parent at t d h =
     let trees = tree_refusals (unwrap_or (level parent d.root) 0) (node_count d.root) d.next_id t in
-    let indexed = (nat_lt (child_count parent d.root) at, bad_index) ∷ trees in
-    let named = (is_none (name_at parent d.root), not_element) ∷ indexed in
-    let live = first-none (is_none (find parent d.root)) no_node named h in
-    let is_element = first-none (is_none (name_at parent d.root)) not_element indexed live.1 in
-    let low = first-none (nat_lt (child_count parent d.root) at) bad_index trees is_element.1 in
+    let indexed = (nat_lt (child_count parent d.root) at, BadIndex) ∷ trees in
+    let named = (is_none (name_at parent d.root), NotElement) ∷ indexed in
+    let live = first-none (is_none (find parent d.root)) NoNode named h in
+    let is_element = first-none (is_none (name_at parent d.root)) NotElement indexed live.1 in
+    let low = first-none (nat_lt (child_count parent d.root) at) BadIndex trees is_element.1 in
     let found : (n : Node) × (find parent d.root ≡ Some n) = some-not_none (find parent d.root) live.0 in
     let stands : (l : ℕ) × (level parent d.root ≡ Some l) = some-is (level parent d.root) (level-found parent d.root ∙ ap is_some found.1) in
     record {

@@ -6,7 +6,7 @@ use Rattle.std.proofs.lemmas.Bool.{cases_lt, false≢true}
 use Rattle.std.proofs.lemmas.Option.{slice_get_past}
 use Rattle.page_model.specs.Trees.{Tree, Trees, no_trees, tree, elem, characters, is_elem, size, depth}
 use Rattle.page_model.specs.Document.{Document, document, Node, element, text, Nodes, no_nodes, node, nodes_of, id_of, ids_of, numbered, all_numbered, height, heights, node_count}
-use Rattle.page_model.specs.Limits.{max_nodes, max_depth}
+use Rattle.page_model.specs.declared.limits.TheConstants.{MAX_NODES, MAX_DEPTH}
 use Rattle.dom_arena.specs.declared.slot.Slot.{Slot}
 use Rattle.dom_arena.specs.Table.{slot_at, slot_of, Holds, HoldsAll, IsTable, below, node_of, tree_in}
 use Rattle.dom_arena.specs.Rows.{rows, all_rows}
@@ -30,9 +30,9 @@ mutual
       let rest : nodes_of (map (below slots k) (ids_of ns)) ≡ ns = HoldsAll-below slots up (suc index) k ns h.1 (omega arith) in
       ap (λ m. node m (nodes_of (map (below slots k) (ids_of ns)))) first ∙ ap (node n) rest
 
-pub tree_in-held : (slots : List (Option Slot)) (n : Node) → Holds slots None 0 n → id_of n ≡ 0 → height n ≤ max_depth → tree_in slots ≡ n
+pub tree_in-held : (slots : List (Option Slot)) (n : Node) → Holds slots None 0 n → id_of n ≡ 0 → height n ≤ MAX_DEPTH → tree_in slots ≡ n
 unfolding tree_in
-tree_in-held slots n h z l = ap (below slots max_depth) (sym z) ∙ Holds-below slots None 0 max_depth n h l
+tree_in-held slots n h z l = ap (below slots MAX_DEPTH) (sym z) ∙ Holds-below slots None 0 MAX_DEPTH n h l
 
 -- ---- the rows of a numbered tree hold it
 
@@ -71,7 +71,7 @@ live-within slots i h = elim (cases_lt i (length slots)) [
   | inr l ↦ absurd (false≢true (ap (λ (o : Option (Option Slot)). is_some (option_flatten o)) (sym (slice_get_past slots i l)) ∙ h))
 ]
 
-pub IsTable-rows : (t : Tree) → is_elem t ≡ true → size t ≤ max_nodes → depth t ≤ max_depth → IsTable (rows None 0 (numbered 0 t)) (numbered 0 t)
+pub IsTable-rows : (t : Tree) → is_elem t ≡ true → size t ≤ MAX_NODES → depth t ≤ MAX_DEPTH → IsTable (rows None 0 (numbered 0 t)) (numbered 0 t)
 IsTable-rows t e few low = record {
   first = id_of-numbered 0 t;
   element = element-numbered 0 t e;
@@ -86,28 +86,28 @@ IsTable-rows t e few low = record {
       let n : length (rows None 0 (numbered 0 t)) ≡ size t = length-rows None 0 0 t in
       omega arith;
   given = let n : length (rows None 0 (numbered 0 t)) ≡ size t = length-rows None 0 0 t in omega arith;
-  few = subst (λ (k : ℕ). k ≤ max_nodes) (sym (node_count-numbered 0 t)) few;
-  low = subst (λ (k : ℕ). k ≤ max_depth) (sym (height-numbered 0 t)) low;
+  few = subst (λ (k : ℕ). k ≤ MAX_NODES) (sym (node_count-numbered 0 t)) few;
+  low = subst (λ (k : ℕ). k ≤ MAX_DEPTH) (sym (height-numbered 0 t)) low;
 }
 
-pub tree_in-rows : (t : Tree) → depth t ≤ max_depth → tree_in (rows None 0 (numbered 0 t)) ≡ numbered 0 t
+pub tree_in-rows : (t : Tree) → depth t ≤ MAX_DEPTH → tree_in (rows None 0 (numbered 0 t)) ≡ numbered 0 t
 tree_in-rows t low =
     tree_in-held (rows None 0 (numbered 0 t)) (numbered 0 t)
     (subst (λ (slots : List (Option Slot)). Holds slots None 0 (numbered 0 t)) (append-nil (rows None 0 (numbered 0 t))) (Holds-rows [] [] None 0 0 t refl))
-    (id_of-numbered 0 t) (subst (λ (k : ℕ). k ≤ max_depth) (sym (height-numbered 0 t)) low)
+    (id_of-numbered 0 t) (subst (λ (k : ℕ). k ≤ MAX_DEPTH) (sym (height-numbered 0 t)) low)
 
 -- ---- what an empty table becomes
 
 rows-made : (old slots : List (Option Slot)) (t : Tree) → old ≡ [] → slots ≡ old ++ rows None 0 (numbered (length old) t) → slots ≡ rows None 0 (numbered 0 t)
 rows-made old slots t e made = made ∙ ap (λ (o : List (Option Slot)). o ++ rows None 0 (numbered (length o) t)) e
 
-pub IsTable-made : (old slots : List (Option Slot)) (t : Tree) → old ≡ [] → slots ≡ old ++ rows None 0 (numbered (length old) t) → is_elem t ≡ true → size t ≤ max_nodes → depth t ≤ max_depth
+pub IsTable-made : (old slots : List (Option Slot)) (t : Tree) → old ≡ [] → slots ≡ old ++ rows None 0 (numbered (length old) t) → is_elem t ≡ true → size t ≤ MAX_NODES → depth t ≤ MAX_DEPTH
     → IsTable slots (tree_in slots)
 IsTable-made old slots t e made is_element few low =
     subst (λ (s : List (Option Slot)). IsTable s (tree_in s)) (sym (rows-made old slots t e made))
     (subst (λ (n : Node). IsTable (rows None 0 (numbered 0 t)) n) (sym (tree_in-rows t low)) (IsTable-rows t is_element few low))
 
-pub document-made : (old slots : List (Option Slot)) (t : Tree) → old ≡ [] → slots ≡ old ++ rows None 0 (numbered (length old) t) → depth t ≤ max_depth
+pub document-made : (old slots : List (Option Slot)) (t : Tree) → old ≡ [] → slots ≡ old ++ rows None 0 (numbered (length old) t) → depth t ≤ MAX_DEPTH
     → ◌≡◌ {A = Document} (record { root = tree_in slots; next_id = length slots }) (document t)
 document-made old slots t e made low =
     let is : slots ≡ rows None 0 (numbered 0 t) = rows-made old slots t e made in
@@ -115,7 +115,7 @@ document-made old slots t e made low =
     let next : length slots ≡ size t = ap length is ∙ length-rows None 0 0 t in
     λ j. record { root = root j; next_id = next j }
 
-pub count-made : (old slots : List (Option Slot)) (t : Tree) → old ≡ [] → slots ≡ old ++ rows None 0 (numbered (length old) t) → depth t ≤ max_depth → length slots ≡ node_count (tree_in slots)
+pub count-made : (old slots : List (Option Slot)) (t : Tree) → old ≡ [] → slots ≡ old ++ rows None 0 (numbered (length old) t) → depth t ≤ MAX_DEPTH → length slots ≡ node_count (tree_in slots)
 count-made old slots t e made low =
     let is : slots ≡ rows None 0 (numbered 0 t) = rows-made old slots t e made in
     ap length is ∙ (length-rows None 0 0 t ∙ (sym (node_count-numbered 0 t) ∙ sym (ap node_count (ap tree_in is ∙ tree_in-rows t low))))

@@ -6,7 +6,7 @@ use Rattle.std.proofs.lemmas.List.{drop_all, take_all}
 use Rattle.std.proofs.lemmas.Option.{same_Some, none-some, slice_get_within}
 use Rattle.page_model.specs.Document.{Document, Node, element, text, id_of, kids_of, ids_of, ids, all_ids, find, parent_in, height, node_count, IsAmong, AreDistinct}
 use Rattle.page_model.specs.Edits.{removed}
-use Rattle.page_model.specs.Limits.{max_depth}
+use Rattle.page_model.specs.declared.limits.TheConstants.{MAX_DEPTH}
 use Rattle.page_model.proofs.Members.{among-top, among-find, find-among, find-part, find-distinct, among-kids, some-is}
 use Rattle.page_model.proofs.Parents.{kid-below, parent-part, parent-distinct, parent-find}
 use Rattle.page_model.proofs.Levels.{find-height}
@@ -202,7 +202,7 @@ count-reduced slots root i up at table ne may =
 
 -- the node that goes is held as a node is that can be cleared
 pub clear-spot : (slots now cut : List (Option Slot)) (root : Node) (i up at live live' : ℕ) → now ≡ slots → IsTable slots root → (may : MayRemove i up at slots root)
-    → ((up' : Option ℕ) (index : ℕ) (n : Node) → Holds now up' index n → id_of n ≡ i → height n ≤ max_depth → AreDistinct (ids n) → Clears now cut live live' (ids n))
+    → ((up' : Option ℕ) (index : ℕ) (n : Node) → Holds now up' index n → id_of n ≡ i → height n ≤ MAX_DEPTH → AreDistinct (ids n) → Clears now cut live live' (ids n))
     → Clears slots cut live live' (ids may.node)
 clear-spot slots now cut root i up at live live' is table may clear =
     let held : IsHeld slots may.node = find-held slots None 0 i root may.node table.held may.found in

@@ -3,7 +3,7 @@ use Rattle.std.specs.Prelude.{◌≡◌, ◌<◌, ◌≤◌, ℕ, zero, suc, len
 use Rattle.std.specs.Option.{option_flatten}
 use Rattle.page_model.specs.Trees.{Text}
 use Rattle.page_model.specs.Document.{Node, element, text, Nodes, no_nodes, node, nodes_of, ids_of, id_of, ids, name_of, find, height, node_count, AreDistinct, IsAmong}
-use Rattle.page_model.specs.Limits.{max_nodes, max_depth, max_ids}
+use Rattle.page_model.specs.declared.limits.TheConstants.{MAX_NODES, MAX_DEPTH, MAX_IDS}
 use Rattle.dom_arena.specs.declared.slot.Slot.{Slot}
 use Rattle.dom_arena.specs.declared.slot.Content.{Content}
 use Rattle.dom_arena.specs.declared.slot.Content.TheVariants.{Element, Chars}
@@ -77,7 +77,7 @@ below slots (suc k) id = node_of (below slots k) id (slot_at slots id)
 
 -- the tree below the root, whose number is 0
 unfoldable pub tree_in : List (Option Slot) → Node
-tree_in slots = below slots max_depth 0
+tree_in slots = below slots MAX_DEPTH 0
 
 -- ---- tables that hold a tree
 
@@ -110,6 +110,6 @@ pub record IsTable (slots : List (Option Slot)) (root : Node) : Type 0 where
   pub live : (i : ℕ) → is_some (slot_at slots i) ≡ true → is_some (find i root) ≡ true
   pub distinct : AreDistinct (ids root)
   pub numbered : (i : ℕ) → IsAmong i (ids root) → i < length slots
-  pub given : length slots ≤ max_ids
-  pub few : node_count root ≤ max_nodes
-  pub low : height root ≤ max_depth
+  pub given : length slots ≤ MAX_IDS
+  pub few : node_count root ≤ MAX_NODES
+  pub low : height root ≤ MAX_DEPTH

@@ -2,7 +2,7 @@
 ghost use Rattle.std.specs.Prelude.{◌≡◌, ◌+◌, ◌≤◌, ◌++◌, length, map, IfOk, OnOk, OnErr};
 ghost use Rattle.page_model.specs.Trees.{elem, characters, size, sizes, trees_of};
 ghost use Rattle.page_model.specs.Document.{numbered, all_numbered, ids_of};
-ghost use Rattle.page_model.specs.Limits.{max_ids};
+ghost use Rattle.page_model.specs.declared.limits.TheConstants.{MAX_IDS};
 ghost use Rattle.dom_arena.specs.Shape.{shape};
 ghost use Rattle.dom_arena.specs.Rows.{rows, all_rows, IsLonger};
 
@@ -39,7 +39,7 @@ pub fn append(
     parent: Option<NodeId>,
     index: usize,
 ) -> Result<NodeId, NoMemory>
-    requires room { length slots.old.items + size (shape tree.now) ≤ max_ids }
+    requires room { length slots.old.items + size (shape tree.now) ≤ MAX_IDS }
     ensures number { IfOk result (λ id. id ≡ length slots.old.items) }
     ensures copied { OnOk result (slots.new.items ≡ slots.old.items ++ rows parent index (numbered (length slots.old.items) (shape tree.now))) }
     ensures longer { OnErr result (IsLonger slots.old.items slots.new.items) }
@@ -65,7 +65,7 @@ fn append_text(
     parent: Option<NodeId>,
     index: usize,
 ) -> Result<NodeId, NoMemory>
-    requires room { length slots.old.items + 1 ≤ max_ids }
+    requires room { length slots.old.items + 1 ≤ MAX_IDS }
     ensures number { IfOk result (λ id. id ≡ length slots.old.items) }
     ensures copied { OnOk result (slots.new.items ≡ slots.old.items ++ rows parent index (numbered (length slots.old.items) (characters text.now))) }
     ensures longer { OnErr result (IsLonger slots.old.items slots.new.items) }
@@ -91,7 +91,7 @@ fn append_element(
     parent: Option<NodeId>,
     index: usize,
 ) -> Result<NodeId, NoMemory>
-    requires room { length slots.old.items + size (elem name.now attributes.now (trees_of (map shape children.now))) ≤ max_ids }
+    requires room { length slots.old.items + size (elem name.now attributes.now (trees_of (map shape children.now))) ≤ MAX_IDS }
     ensures number { IfOk result (λ id. id ≡ length slots.old.items) }
     ensures copied { OnOk result (slots.new.items ≡ slots.old.items ++ rows parent index (numbered (length slots.old.items) (elem name.now attributes.now (trees_of (map shape children.now))))) }
     ensures longer { OnErr result (IsLonger slots.old.items slots.new.items) }
@@ -118,7 +118,7 @@ fn append_all(
     children: &[Tree],
     parent: NodeId,
 ) -> Result<ChildIds, NoMemory>
-    requires room { length slots.old.items + sizes (trees_of (map shape children.now)) ≤ max_ids }
+    requires room { length slots.old.items + sizes (trees_of (map shape children.now)) ≤ MAX_IDS }
     ensures numbers { IfOk result (λ numbers. numbers ≡ ids_of (all_numbered (length slots.old.items) (trees_of (map shape children.now)))) }
     ensures copied { OnOk result (slots.new.items ≡ slots.old.items ++ all_rows parent 0 (all_numbered (length slots.old.items) (trees_of (map shape children.now)))) }
     ensures longer { OnErr result (IsLonger slots.old.items slots.new.items) }

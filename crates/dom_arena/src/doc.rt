@@ -1,7 +1,7 @@
 ghost use Rattle.std.specs.Prelude.{◌≡◌, ◌≤◌, ◌<◌, ℕ, ◌↔◌, IsTrue, true, is_some, IsSome, IfOk, IfErr, OnOk, OnErr, ◌≢◌, unwrap_or, option_map, encode_utf8_all};
 ghost use Rattle.page_model.specs.Document.{Node, document, id_of, kids_of, name_of, find, parent_of, first_child_of, name_at, next_of, prev_of, AreDistinct, IsAmong, ids, height, node_count};
 ghost use Rattle.page_model.specs.Trees.{is_elem, size, depth};
-ghost use Rattle.page_model.specs.Limits.{max_nodes, max_depth, max_ids};
+ghost use Rattle.page_model.specs.declared.limits.TheConstants.{MAX_NODES, MAX_DEPTH, MAX_IDS};
 ghost use Rattle.page_model.specs.Edits.{load_refusals, after_insert, insert_refusals, after_remove, remove_refusals, child_count, level};
 ghost use Rattle.dom_arena.specs.Faults.{AnswersBy, ChecksBy};
 ghost use Rattle.page_model.specs.Document.{child_ids};
@@ -10,10 +10,10 @@ ghost use Rattle.dom_arena.specs.Shape.{shape};
 
 use super::children::Children;
 use super::fault::DocFault;
-use super::limits::MAX_DEPTH;
 use super::slot::Slot;
 use super::tree::Tree;
 use super::{copies, edits, limits, table};
+use page_model::MAX_DEPTH;
 use port_core::NodeId;
 use std::alloc::Global;
 use std::marker::Model;
@@ -73,9 +73,9 @@ impl Doc {
         ensures element { IsSome (name_of self.now.root) }
         ensures distinct { AreDistinct (ids self.now.root) }
         ensures numbered { (i : ℕ) → IsAmong i (ids self.now.root) → i < self.now.next_id }
-        ensures given { self.now.next_id ≤ max_ids }
-        ensures few { node_count self.now.root ≤ max_nodes }
-        ensures low { height self.now.root ≤ max_depth }
+        ensures given { self.now.next_id ≤ MAX_IDS }
+        ensures few { node_count self.now.root ≤ MAX_NODES }
+        ensures low { height self.now.root ≤ MAX_DEPTH }
     {
         // A read of the slots lets the proof see what holds of each document.
         let _ = &self.slots;
@@ -182,7 +182,7 @@ impl Doc {
     fn level(&self, id: NodeId) -> u32
         requires live { is_some (find id self.now.root) ≡ true }
         ensures value { result ≡ unwrap_or (level id self.now.root) 0 }
-        ensures low { result ≤ max_depth }
+        ensures low { result ≤ MAX_DEPTH }
     {
         table::level(self.slots.as_slice(), id)
     }

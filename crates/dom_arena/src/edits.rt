@@ -3,7 +3,7 @@ ghost use Rattle.std.specs.Prelude.{◌≡◌, ◌≤◌, ◌<◌, ◌-◌, leng
 ghost use Rattle.std.specs.List.{insert, remove};
 ghost use Rattle.page_model.specs.Document.{Node, Nodes, id_of, ids_of, ids, all_ids, height, heights, AreDistinct};
 ghost use Rattle.page_model.specs.Trees.{size};
-ghost use Rattle.page_model.specs.Limits.{max_ids};
+ghost use Rattle.page_model.specs.declared.limits.TheConstants.{MAX_IDS};
 ghost use Rattle.dom_arena.specs.Shape.{shape};
 ghost use Rattle.dom_arena.specs.Rows.{IsLonger};
 ghost use Rattle.dom_arena.specs.Table.{slot_at, kids_of_slot, kids_at, Holds, HoldsAll};
@@ -102,7 +102,7 @@ pub fn insert(
     parent: NodeId,
     index: usize,
 ) -> Result<NodeId, NoMemory>
-    requires room { length slots.old.items + size (shape tree.now) ≤ max_ids }
+    requires room { length slots.old.items + size (shape tree.now) ≤ MAX_IDS }
     requires parent { parent < length slots.old.items }
     requires within { index ≤ length (kids_at slots.old.items parent) }
     ensures number { IfOk result (λ id. id ≡ length slots.old.items) }
@@ -125,7 +125,7 @@ fn append_and_attach(
     parent: NodeId,
     index: usize,
 ) -> Result<NodeId, NoMemory>
-    requires room { length slots.old.items + size (shape tree.now) ≤ max_ids }
+    requires room { length slots.old.items + size (shape tree.now) ≤ MAX_IDS }
     requires parent { parent < length slots.old.items }
     requires within { index ≤ length (kids_at slots.old.items parent) }
     ensures number { IfOk result (λ id. id ≡ length slots.old.items) }

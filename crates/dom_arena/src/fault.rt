@@ -1,6 +1,8 @@
 ghost use Rattle.dom_arena.specs.declared.fault.DocFault.TheVariants.{NoMemory as no_memory};
 ghost use Rattle.std.specs.Prelude.{◌≡◌};
+ghost use Rattle.dom_arena.specs.Faults.{refusal_of_fault};
 
+use page_model::Refusal;
 use port_core::NoMemory;
 use thiserror::Error;
 
@@ -38,5 +40,22 @@ impl From<NoMemory> for DocFault {
 
     fn from(_e: NoMemory) -> DocFault {
         DocFault::NoMemory
+    }
+}
+
+impl From<DocFault> for Refusal {
+    ghost from_gives = { λ fault r. r ≡ refusal_of_fault fault };
+
+    fn from(fault: DocFault) -> Refusal {
+        match fault {
+            DocFault::NoMemory => Refusal::NoMemory,
+            DocFault::NoNode => Refusal::NoNode,
+            DocFault::NotElement => Refusal::NotElement,
+            DocFault::IsRoot => Refusal::IsRoot,
+            DocFault::BadIndex => Refusal::BadIndex,
+            DocFault::NodeLimit => Refusal::NodeLimit,
+            DocFault::DepthLimit => Refusal::DepthLimit,
+            DocFault::IdLimit => Refusal::IdLimit,
+        }
     }
 }

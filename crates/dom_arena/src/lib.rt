@@ -15,5 +15,4 @@ mod tree;
 pub use children::Children;
 pub use doc::Doc;
 pub use fault::DocFault;
-pub use limits::MAX_DEPTH;
 pub use tree::{Attribute, Attributes as Attrs, Tree};

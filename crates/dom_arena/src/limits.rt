@@ -1,30 +1,22 @@
 //! How large a document may become, and what is refused for it.
 ghost use Rattle.std.specs.Prelude.{◌≡◌, ◌↔◌, ◌+◌, ◌≤◌, ◌<◌, IsTrue, MatchOption, map, min};
 ghost use Rattle.page_model.specs.Trees.{size, sizes, depth, depths, trees_of};
-ghost use Rattle.page_model.specs.Limits.{max_nodes, max_depth, max_ids};
+ghost use Rattle.page_model.specs.declared.limits.TheConstants.{MAX_NODES, MAX_DEPTH, MAX_IDS};
 ghost use Rattle.page_model.specs.Edits.{tree_refusals};
 ghost use Rattle.dom_arena.specs.Shape.{shape};
 ghost use Rattle.dom_arena.specs.Faults.{ChecksBy};
 
 use super::fault::DocFault;
 use super::tree::Tree;
-
-/// The most live nodes of a document.
-const MAX_NODES: u32 = 20_000;
-
-/// The deepest level of a document, where the root stands at 1.
-pub const MAX_DEPTH: u32 = 96;
-
-/// The most numbers that a document gives.
-const MAX_IDS: u32 = 100_000;
+use page_model::{MAX_DEPTH, MAX_IDS, MAX_NODES};
 
 /// Whether a new tree may stand below a node of this level, where so many nodes live and so many numbers were given.
 ///
 /// The depth is asked first, as that is the first refusal, and for it all of a tree may be read that is not too deep. The nodes are counted once, as far as the room that the node limit leaves.
 pub fn check(tree: &Tree, above: u32, live: u32, given: u32) -> Result<(), DocFault>
-    requires above { above ≤ max_depth }
-    requires live { live ≤ max_nodes }
-    requires given { given ≤ max_ids }
+    requires above { above ≤ MAX_DEPTH }
+    requires live { live ≤ MAX_NODES }
+    requires given { given ≤ MAX_IDS }
     ensures { ChecksBy (tree_refusals above live given (shape tree.now)) result }
 {
     if !is_within(tree, MAX_DEPTH - above) {

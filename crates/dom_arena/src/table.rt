@@ -2,12 +2,12 @@
 ghost use Rattle.std.specs.Prelude.{◌≡◌, encode_utf8_all, option_map, suc, slice_get, ◌+◌, ◌-◌};
 ghost use Rattle.std.specs.Option.{option_copied};
 ghost use Rattle.page_model.specs.Document.{first};
-ghost use Rattle.page_model.specs.Limits.{max_depth};
+ghost use Rattle.page_model.specs.declared.limits.TheConstants.{MAX_DEPTH};
 ghost use Rattle.dom_arena.specs.Writes.{parents_above};
 ghost use Rattle.dom_arena.specs.Table.{slot_at, kids_of_slot, kids_at, name_in, parent_in_slot, parent_and_index_in, next_in, prev_in, preceding};
 
-use super::limits::MAX_DEPTH;
 use super::slot::{Content, Slot};
+use page_model::MAX_DEPTH;
 use port_core::NodeId;
 
 /// The slot of a live node.
@@ -107,7 +107,7 @@ pub fn prev(slots: &[Option<Slot>], id: NodeId) -> Option<NodeId>
 
 /// The level of a node, where one without a parent stands at 1, as far as the depth of a document.
 pub fn level(slots: &[Option<Slot>], id: NodeId) -> u32
-    ensures { result ≡ suc (parents_above slots.now (max_depth - 1) id) }
+    ensures { result ≡ suc (parents_above slots.now (MAX_DEPTH - 1) id) }
 {
     let mut at = id;
     for above in 1..MAX_DEPTH {

@@ -2,8 +2,9 @@
 use Rattle.std.specs.Prelude.{ℕ, zero, suc, ◌+◌, ◌==◌, length, [], ◌∷◌, nat_lt, if◌then◌else◌, Option, Some, None, is_none, option_map, unwrap_or}
 use Rattle.page_model.specs.Trees.{Tree, size, depth}
 use Rattle.page_model.specs.Document.{Node, element, text, Nodes, no_nodes, node, Document, numbered, id_of, child_ids, find, name_at, or_else, node_count}
-use Rattle.page_model.specs.Limits.{max_nodes, max_depth, max_ids}
-use Rattle.page_model.specs.Refusals.{Causes, no_node, not_element, is_root, bad_index, depth_limit, node_limit, id_limit}
+use Rattle.page_model.specs.declared.limits.TheConstants.{MAX_NODES, MAX_DEPTH, MAX_IDS}
+use Rattle.page_model.specs.Refusals.{Causes}
+use Rattle.page_model.specs.declared.cause.Cause.TheVariants.{NoNode, NotElement, IsRoot, BadIndex, DepthLimit, NodeLimit, IdLimit}
 
 -- ---- the tree after an edit
 
@@ -63,9 +64,9 @@ child_count i root = length (child_ids i root)
 -- why a new tree is refused below a node of this level, where so many nodes live and so many numbers were given since the load
 abbrev pub tree_refusals : ℕ → ℕ → ℕ → Tree → Causes
 tree_refusals above live given t =
-    (nat_lt max_depth (above + depth t), depth_limit)
-    ∷ (nat_lt max_nodes (live + size t), node_limit)
-    ∷ (nat_lt max_ids (given + size t), id_limit)
+    (nat_lt MAX_DEPTH (above + depth t), DepthLimit)
+    ∷ (nat_lt MAX_NODES (live + size t), NodeLimit)
+    ∷ (nat_lt MAX_IDS (given + size t), IdLimit)
     ∷ []
 
 -- the tree of a load, which replaces what was loaded
@@ -75,10 +76,10 @@ load_refusals t = tree_refusals 0 0 0 t
 -- the parent of an insert is a live node and an element, and has so many children at least
 abbrev pub insert_refusals : ℕ → ℕ → Tree → Document → Causes
 insert_refusals parent index t d =
-    (is_none (find parent d.root), no_node)
-    ∷ (is_none (name_at parent d.root), not_element)
-    ∷ (nat_lt (child_count parent d.root) index, bad_index)
+    (is_none (find parent d.root), NoNode)
+    ∷ (is_none (name_at parent d.root), NotElement)
+    ∷ (nat_lt (child_count parent d.root) index, BadIndex)
     ∷ tree_refusals (unwrap_or (level parent d.root) 0) (node_count d.root) d.next_id t
 
 abbrev pub remove_refusals : ℕ → Document → Causes
-remove_refusals i d = (is_none (find i d.root), no_node) ∷ (i == id_of d.root, is_root) ∷ []
+remove_refusals i d = (is_none (find i d.root), NoNode) ∷ (i == id_of d.root, IsRoot) ∷ []

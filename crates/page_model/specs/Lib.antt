@@ -2,7 +2,6 @@ pub mod Trees
 pub mod Document
 pub mod DocumentCode
 pub mod Jsonml
-pub mod Limits
 pub mod Refusals
 pub mod Edits
 pub mod Pages

@@ -1,12 +1,8 @@
 -- What is loaded.
-use Rattle.std.specs.Prelude.{ℕ, List, Option}
+use Rattle.std.specs.Prelude.{List, Option}
 use Rattle.page_model.specs.Trees.{Text}
 use Rattle.page_model.specs.Document.{Document}
-
--- the viewport's sides in pixels
-pub record Viewport : Type 0 where
-  pub width : ℕ
-  pub height : ℕ
+use Rattle.page_model.specs.declared.viewport.Viewport.{Viewport}
 
 -- a document, the texts of its style sheets, and the viewport
 pub record Page : Type 0 where

@@ -1,9 +1,10 @@
 -- How a line is collected, piece by piece.
 use Rattle.std.proofs.Common.{◌≡◌, ℕ, ◌+◌, ◌-◌, ◌<◌, ◌≤◌, List, [], ◌∷◌, ◌++◌, length, Option, Some, None, inl, inr, refl, ap, sym, ◌∙◌, subst, arith, append_assoc, length-append}
-use Rattle.stream_model.specs.Streams.{FromTo, Grew, Takes, TakesCount}
+use Rattle.stream_model.specs.Streams.{SourceState, FromTo, Grew, Takes, TakesCount}
 use Rattle.stream_model.specs.Lines.{newline}
+use Rattle.stream_model.specs.declared.limits.TheConstants.{MAX_TAKEN}
 use Rattle.port_core.specs.Draft.{IsDraftOf, Absorbs}
-use Rattle.port_core.specs.Reader.{max_taken, ahead}
+use Rattle.port_core.specs.Reader.{ahead}
 use Rattle.port_core.specs.Window.{Intake, CutsLine, CutsPart, Fills, Rests, Moves, TakesUp, TakesUpLine, Collecting, CollectsLine, Halts}
 use Rattle.port_core.proofs.LineLemmas.{IsUnbroken-append}
 use Rattle.port_core.proofs.StreamLemmas.{TakesCount-none, TakesCount-takes, TakesCount-joins, Grew-joins}
@@ -22,54 +23,63 @@ Intake-same v w e f =
     ap (λ (p : List ℕ). let x : Intake = record { pending = p; taken = v.taken } in x) e
     ∙ ap (λ (t : ℕ). let x : Intake = record { pending = w.pending; taken = t } in x) f
 
-Moves-none : (w : Intake) (left : Option (List ℕ)) (taken : ℕ) → w.taken ≤ max_taken → Moves w w left left taken taken
-Moves-none w left taken small = record {
+Moves-none : (w : Intake) (s : SourceState) → w.taken ≤ MAX_TAKEN → Moves w w s s
+Moves-none w s small = record {
   forward = omega arith;
   bounded = small;
   grew = omega arith;
-  told = TakesCount-none left (w.taken - w.taken) (omega arith);
+  told = TakesCount-none s.left (w.taken - w.taken) (omega arith);
   effort_falls = omega arith;
 }
 
-pub Moves-joins : (u v w : Intake) (a b c : Option (List ℕ)) (i j k : ℕ) → Moves u v a b i j → Moves v w b c j k → Moves u w a c i k
-Moves-joins u v w a b c i j k m n =
+pub Moves-joins : (u v w : Intake) (r s t : SourceState) → Moves u v r s → Moves v w s t → Moves u w r t
+Moves-joins u v w r s t m n =
     let sums : (v.taken - u.taken) + (w.taken - v.taken) ≡ w.taken - u.taken = omega (arith, m.forward, n.forward) in
     record {
       forward = omega (arith, m.forward, n.forward);
       bounded = n.bounded;
-      grew = Grew-joins i j k (v.taken - u.taken) (w.taken - v.taken) (w.taken - u.taken) sums m.grew n.grew;
-      told = TakesCount-joins a b c (v.taken - u.taken) (w.taken - v.taken) (w.taken - u.taken) sums m.told n.told;
+      grew = Grew-joins r.taken s.taken t.taken (v.taken - u.taken) (w.taken - v.taken) (w.taken - u.taken) sums m.grew n.grew;
+      told = TakesCount-joins r.left s.left t.left (v.taken - u.taken) (w.taken - v.taken) (w.taken - u.taken) sums m.told n.told;
       effort_falls = omega (arith, m.effort_falls, n.effort_falls);
     }
 
 -- pending bytes were taken out, and none of the source
-pub Moves-cut : (v w : Intake) (left : Option (List ℕ)) (taken : ℕ) → v.taken ≤ max_taken → w.taken ≡ v.taken → length w.pending ≤ length v.pending → Moves v w left left taken taken
-Moves-cut v w left taken small e less = record {
+pub Moves-cut : (v w : Intake) (s : SourceState) → v.taken ≤ MAX_TAKEN → w.taken ≡ v.taken → length w.pending ≤ length v.pending → Moves v w s s
+Moves-cut v w s small e less = record {
   forward = omega arith;
   bounded = omega arith;
   grew = omega arith;
-  told = TakesCount-none left (w.taken - v.taken) (omega arith);
+  told = TakesCount-none s.left (w.taken - v.taken) (omega arith);
   effort_falls = omega arith;
 }
 
-Moves-fills : (v w : Intake) (a b : Option (List ℕ)) (i j : ℕ) → Fills v w a b i j → Moves v w a b i j
-Moves-fills v w a b i j f =
+Moves-fills : (v w : Intake) (s t : SourceState) → Fills v w s t → Moves v w s t
+Moves-fills v w s t f =
     let same : length w.pending ≡ w.taken - v.taken = omega (arith, f.count) in
     record {
       forward = omega (arith, f.count);
       bounded = f.bounded;
-      grew = subst (λ (n : ℕ). Grew i n j) same f.grew;
-      told = subst (λ (n : ℕ). TakesCount a b n) same (TakesCount-takes a b w.pending f.takes);
+      grew = subst (λ (n : ℕ). Grew s.taken n t.taken) same f.grew;
+      told = subst (λ (n : ℕ). TakesCount s.left t.left n) same (TakesCount-takes s.left t.left w.pending f.takes);
       effort_falls = omega (arith, f.count, f.bounded);
     }
 
--- before anything was read
-pub Collecting-none : (w : Intake) (draft : List ℕ) (left : Option (List ℕ)) (taken : ℕ) → draft ≡ [] → w.taken ≤ max_taken → Collecting w w draft left left taken taken
-Collecting-none w draft None taken e small = record { bytes = tt; moves = Moves-none w None taken small }
-Collecting-none w draft (Some x) taken e small = record {
-  bytes = record { front = []; unbroken = tt; same = refl; kept = inl e };
-  moves = Moves-none w (Some x) taken small;
+Moves-rests : (v w : Intake) (s t : SourceState) → v.taken ≤ MAX_TAKEN → v.pending ≡ [] → Rests v w s t → Moves v w s t
+Moves-rests v w s t small e r = record {
+  forward = omega (arith, r.count);
+  bounded = omega (arith, r.count);
+  grew = omega (arith, r.count, r.taken_same);
+  told = rw r.left_same (TakesCount-none s.left (w.taken - v.taken) (omega (arith, r.count)));
+  effort_falls = omega (arith, r.count, ap length r.empty);
 }
+
+-- before anything was read
+start_bytes : (pending draft : List ℕ) (a : Option (List ℕ)) → draft ≡ [] → FromTo (ahead pending a) (ahead pending a) (TakesUp draft)
+start_bytes pending draft None e = tt
+start_bytes pending draft (Some x) e = record { front = []; unbroken = tt; same = refl; kept = inl e }
+
+pub Collecting-none : (w : Intake) (draft : List ℕ) (s : SourceState) → draft ≡ [] → w.taken ≤ MAX_TAKEN → Collecting w w draft s s
+Collecting-none w draft s e small = record { bytes = start_bytes w.pending draft s.left e; moves = Moves-none w s small }
 
 part_bytes : (u v w : Intake) (draft draft' : List ℕ) (a b : Option (List ℕ)) → CutsPart v w draft draft'
     → FromTo (ahead u.pending a) (ahead v.pending b) (TakesUp draft) → FromTo (ahead u.pending a) (ahead w.pending b) (TakesUp draft')
@@ -84,11 +94,11 @@ part_bytes u v w draft draft' (Some x) (Some y) c r = record {
 }
 
 -- all that was pending belongs to the line
-pub Collecting-part : (u v w : Intake) (draft draft' : List ℕ) (a b : Option (List ℕ)) (i j : ℕ) → CutsPart v w draft draft'
-    → Collecting u v draft a b i j → Collecting u w draft' a b i j
-Collecting-part u v w draft draft' a b i j c so = record {
-  bytes = part_bytes u v w draft draft' a b c so.bytes;
-  moves = Moves-joins u v w a b b i j j so.moves (Moves-cut v w b j so.moves.bounded c.count (omega (arith, ap length c.empty)));
+pub Collecting-part : (u v w : Intake) (draft draft' : List ℕ) (r s : SourceState) → CutsPart v w draft draft'
+    → Collecting u v draft r s → Collecting u w draft' r s
+Collecting-part u v w draft draft' r s c so = record {
+  bytes = part_bytes u v w draft draft' r.left s.left c so.bytes;
+  moves = Moves-joins u v w r s s so.moves (Moves-cut v w s so.moves.bounded c.count (omega (arith, ap length c.empty)));
 }
 
 more_bytes : (u v w : Intake) (draft : List ℕ) (a b d : Option (List ℕ)) → v.pending ≡ [] → Takes b d w.pending
@@ -106,18 +116,20 @@ more_bytes u v w draft (Some x) (Some y) (Some z) e t r = record {
 }
 
 -- more was pulled
-pub Collecting-more : (u v w : Intake) (draft : List ℕ) (a b d : Option (List ℕ)) (i j k : ℕ) → v.pending ≡ [] → Fills v w b d j k
-    → Collecting u v draft a b i j → Collecting u w draft a d i k
-Collecting-more u v w draft a b d i j k e f so = record {
-  bytes = more_bytes u v w draft a b d e f.takes so.bytes;
-  moves = Moves-joins u v w a b d i j k so.moves (Moves-fills v w b d j k f);
+pub Collecting-more : (u v w : Intake) (draft : List ℕ) (r s t : SourceState) → v.pending ≡ [] → Fills v w s t
+    → Collecting u v draft r s → Collecting u w draft r t
+Collecting-more u v w draft r s t e f so = record {
+  bytes = more_bytes u v w draft r.left s.left t.left e f.takes so.bytes;
+  moves = Moves-joins u v w r s t so.moves (Moves-fills v w s t f);
 }
 
 -- nothing was pulled
-pub Collecting-rests : (u v w : Intake) (draft : List ℕ) (a b d : Option (List ℕ)) (i j k : ℕ) → v.pending ≡ [] → Rests v w b d j k
-    → Collecting u v draft a b i j → Collecting u w draft a d i k
-Collecting-rests u v w draft a b d i j k e r so =
-    rw (r.left_same, r.taken_same) (subst (λ (x : Intake). Collecting u x draft a b i j) (Intake-same v w (e ∙ sym r.empty) (sym r.count)) so)
+pub Collecting-rests : (u v w : Intake) (draft : List ℕ) (r s t : SourceState) → v.pending ≡ [] → Rests v w s t
+    → Collecting u v draft r s → Collecting u w draft r t
+Collecting-rests u v w draft r s t e rests so = record {
+  bytes = rw rests.left_same (subst (λ (p : List ℕ). FromTo (ahead u.pending r.left) (ahead p s.left) (TakesUp draft)) (e ∙ sym rests.empty) so.bytes);
+  moves = Moves-joins u v w r s t so.moves (Moves-rests v w s t so.moves.bounded e rests);
+}
 
 -- the newline was found
 pub line_bytes : (u v w : Intake) (draft draft' : List ℕ) (a b : Option (List ℕ)) → CutsLine v w draft draft'
@@ -139,20 +151,21 @@ pub CutsLine-shorter : (v w : Intake) (draft draft' : List ℕ) → CutsLine v w
 CutsLine-shorter v w draft draft' c = omega (arith, ap length c.parted, length-append c.piece (newline ∷ w.pending))
 
 -- the line is collected
-pub CollectsLine-cut : (u v w : Intake) (draft draft' : List ℕ) (a b : Option (List ℕ)) (i j : ℕ) → CutsLine v w draft draft'
-    → Collecting u v draft a b i j → CollectsLine u w draft' a b i j
-CollectsLine-cut u v w draft draft' a b i j c so =
+pub CollectsLine-cut : (u v w : Intake) (draft draft' : List ℕ) (r s : SourceState) → CutsLine v w draft draft'
+    → s.faults ≡ r.faults → Collecting u v draft r s → CollectsLine u w draft' r s
+CollectsLine-cut u v w draft draft' r s c same so =
     let shorter : length w.pending < length v.pending = CutsLine-shorter v w draft draft' c in
     record {
-      bytes = line_bytes u v w draft draft' a b c so.bytes;
-      moves = Moves-joins u v w a b b i j j so.moves (Moves-cut v w b j so.moves.bounded c.count (omega arith));
+      bytes = line_bytes u v w draft draft' r.left s.left c so.bytes;
+      moves = Moves-joins u v w r s s so.moves (Moves-cut v w s so.moves.bounded c.count (omega arith));
       effort_less = omega (arith, so.moves.effort_falls, c.count);
+      faults = same;
     }
 
 -- the line ends where nothing more was pulled
-pub Halts-rests : (u v w x : Intake) (draft draft' : List ℕ) (a b d : Option (List ℕ)) (i j k : ℕ) → CutsPart v w draft draft' → Rests w x b d j k
-    → Collecting u v draft a b i j → Halts u x draft' a d i k
-Halts-rests u v w x draft draft' a b d i j k c r so = record {
-  so_far = Collecting-rests u w x draft' a b d i j k c.empty r (Collecting-part u v w draft draft' a b i j c so);
-  empty = r.empty;
+pub Halts-rests : (u v w x : Intake) (draft draft' : List ℕ) (r s t : SourceState) → CutsPart v w draft draft' → Rests w x s t
+    → Collecting u v draft r s → Halts u x draft' r t
+Halts-rests u v w x draft draft' r s t c rests so = record {
+  so_far = Collecting-rests u w x draft' r s t c.empty rests (Collecting-part u v w draft draft' r s c so);
+  empty = rests.empty;
 }

@@ -1,7 +1,8 @@
 -- What a reader gives of a line that it has collected.
 use Rattle.std.proofs.Common.{◌≡◌, ℕ, ◌<◌, ◌≤◌, List, [], ◌∷◌, ◌++◌, length, Option, Some, None, inl, inr, refl, ap, sym, ◌∙◌, subst, arith, append-nil}
-use Rattle.stream_model.specs.Streams.{FromTo, NothingLeft}
-use Rattle.stream_model.specs.Lines.{newline, max_line, lines, IsUnbroken}
+use Rattle.stream_model.specs.Streams.{SourceState, FromTo, NothingLeft}
+use Rattle.stream_model.specs.Lines.{newline, lines, IsUnbroken}
+use Rattle.stream_model.specs.declared.limits.TheConstants.{MAX_LINE}
 use Rattle.port_core.specs.Draft.{IsDraftOf, Settles}
 use Rattle.port_core.specs.Reader.{Reader, ahead, IsFirstLine, Gives}
 use Rattle.port_core.specs.Reads.{Reads}
@@ -12,12 +13,12 @@ use Rattle.port_core.proofs.LineLemmas.{lines-newline, lines-last}
 use Rattle.port_core.proofs.StreamLemmas.{FromTo-weaker}
 
 -- a draft that is no longer than a line may be is the whole front
-whole_front : (draft front : List ℕ) → IsDraftOf draft front → length draft ≤ max_line → front ≡ draft
+whole_front : (draft front : List ℕ) → IsDraftOf draft front → length draft ≤ MAX_LINE → front ≡ draft
 whole_front draft front (inl e) short = sym e
 whole_front draft front (inr e) short = absurd (omega (arith, e.0))
 
 -- a draft that is longer is one of a line that is too long
-long_front : (draft front : List ℕ) → IsDraftOf draft front → max_line < length draft → max_line < length front
+long_front : (draft front : List ℕ) → IsDraftOf draft front → MAX_LINE < length draft → MAX_LINE < length front
 long_front draft front (inl e) long = omega (arith, ap length e)
 long_front draft front (inr e) long = omega (arith, e.0, e.1)
 
@@ -77,10 +78,10 @@ abbrev reader : Intake → List ℕ → Option Line → Reader
 reader w line stopped = record { pending = w.pending; taken = w.taken; line = line; stopped = stopped }
 
 -- a line with its newline was read
-pub Reads-line : (answer : Line) (u w : Intake) (draft draft' line : List ℕ) (a b : Option (List ℕ)) (i j p q : ℕ) (stopped : Option Line) → stopped ≡ None
-    → CollectsLine u w draft a b i j → q ≡ p → Settles answer draft draft' → Reads answer (reader u line stopped) (reader w draft' stopped) a b i j p q
-Reads-line Whole u w draft draft' line a b i j p q stopped e c same s = rw e record {
-  lines = FromTo-weaker (ahead u.pending a) (ahead w.pending b) (TakesUpLine draft) (Gives Whole draft' None) (λ x y t. line_given Whole draft draft' x y s t) c.bytes;
+pub Reads-line : (answer : Line) (u w : Intake) (draft draft' line : List ℕ) (r t : SourceState) (stopped : Option Line) → stopped ≡ None
+    → CollectsLine u w draft r t → Settles answer draft draft' → Reads answer (reader u line stopped) (reader w draft' stopped) r t
+Reads-line Whole u w draft draft' line r t stopped e c s = rw e record {
+  lines = FromTo-weaker (ahead u.pending r.left) (ahead w.pending t.left) (TakesUpLine draft) (Gives Whole draft' None) (λ x y p. line_given Whole draft draft' x y s p) c.bytes;
   told = c.moves.told;
   kept = omega (arith, s.1, ap length s.0);
   stops = inl refl;
@@ -89,10 +90,10 @@ Reads-line Whole u w draft draft' line a b i j p q stopped e c same s = rw e rec
   counted = c.moves.grew;
   spent = λ h. cc;
   work = omega (arith, c.effort_less);
-  faults_counted = same;
+  faults_counted = c.faults;
 }
-Reads-line TooLong u w draft draft' line a b i j p q stopped e c same s = rw e record {
-  lines = FromTo-weaker (ahead u.pending a) (ahead w.pending b) (TakesUpLine draft) (Gives TooLong draft' None) (λ x y t. line_given TooLong draft draft' x y s t) c.bytes;
+Reads-line TooLong u w draft draft' line r t stopped e c s = rw e record {
+  lines = FromTo-weaker (ahead u.pending r.left) (ahead w.pending t.left) (TakesUpLine draft) (Gives TooLong draft' None) (λ x y p. line_given TooLong draft draft' x y s p) c.bytes;
   told = c.moves.told;
   kept = s.0;
   stops = inl refl;
@@ -101,17 +102,17 @@ Reads-line TooLong u w draft draft' line a b i j p q stopped e c same s = rw e r
   counted = c.moves.grew;
   spent = λ h. cc;
   work = omega (arith, c.effort_less);
-  faults_counted = same;
+  faults_counted = c.faults;
 }
-Reads-line End u w draft draft' line a b i j p q stopped e c same s = absurd s
-Reads-line Failed u w draft draft' line a b i j p q stopped e c same s = absurd s
-Reads-line Spent u w draft draft' line a b i j p q stopped e c same s = absurd s
+Reads-line End u w draft draft' line r t stopped e c s = absurd s
+Reads-line Failed u w draft draft' line r t stopped e c s = absurd s
+Reads-line Spent u w draft draft' line r t stopped e c s = absurd s
 
 -- the last line was read, which has no newline
-pub Reads-last : (answer : Line) (u w : Intake) (draft draft' line : List ℕ) (a b : Option (List ℕ)) (i j p q : ℕ) (stopped : Option Line) → stopped ≡ None → (draft ≡ [] → ⊥)
-    → CollectsLast u w draft a b i j → q ≡ p → Settles answer draft draft' → Reads answer (reader u line stopped) (reader w draft' (Some End)) a b i j p q
-Reads-last Whole u w draft draft' line a b i j p q stopped e some c same s = rw e record {
-  lines = last_bytes Whole u w draft draft' a b c.halts.empty c.nothing some s c.halts.so_far.bytes;
+pub Reads-last : (answer : Line) (u w : Intake) (draft draft' line : List ℕ) (r t : SourceState) (stopped : Option Line) → stopped ≡ None → (draft ≡ [] → ⊥)
+    → CollectsLast u w draft r t → Settles answer draft draft' → Reads answer (reader u line stopped) (reader w draft' (Some End)) r t
+Reads-last Whole u w draft draft' line r t stopped e some c s = rw e record {
+  lines = last_bytes Whole u w draft draft' r.left t.left c.halts.empty c.nothing some s c.halts.so_far.bytes;
   told = c.halts.so_far.moves.told;
   kept = omega (arith, s.1, ap length s.0);
   stops = inr refl;
@@ -120,10 +121,10 @@ Reads-last Whole u w draft draft' line a b i j p q stopped e some c same s = rw 
   counted = c.halts.so_far.moves.grew;
   spent = λ _. c.early;
   work = omega (arith, c.halts.so_far.moves.effort_falls);
-  faults_counted = same;
+  faults_counted = c.faults;
 }
-Reads-last TooLong u w draft draft' line a b i j p q stopped e some c same s = rw e record {
-  lines = last_bytes TooLong u w draft draft' a b c.halts.empty c.nothing some s c.halts.so_far.bytes;
+Reads-last TooLong u w draft draft' line r t stopped e some c s = rw e record {
+  lines = last_bytes TooLong u w draft draft' r.left t.left c.halts.empty c.nothing some s c.halts.so_far.bytes;
   told = c.halts.so_far.moves.told;
   kept = s.0;
   stops = inr refl;
@@ -132,8 +133,8 @@ Reads-last TooLong u w draft draft' line a b i j p q stopped e some c same s = r
   counted = c.halts.so_far.moves.grew;
   spent = λ _. c.early;
   work = omega (arith, c.halts.so_far.moves.effort_falls);
-  faults_counted = same;
+  faults_counted = c.faults;
 }
-Reads-last End u w draft draft' line a b i j p q stopped e some c same s = absurd s
-Reads-last Failed u w draft draft' line a b i j p q stopped e some c same s = absurd s
-Reads-last Spent u w draft draft' line a b i j p q stopped e some c same s = absurd s
+Reads-last End u w draft draft' line r t stopped e some c s = absurd s
+Reads-last Failed u w draft draft' line r t stopped e some c s = absurd s
+Reads-last Spent u w draft draft' line r t stopped e some c s = absurd s

@@ -1,6 +1,6 @@
 -- Facts of a stream, one after another.
 use Rattle.std.proofs.Common.{◌≡◌, ℕ, ◌+◌, List, [], ◌++◌, length, Option, Some, None, refl, ap, sym, ◌∙◌, arith, append_assoc, length-append}
-use Rattle.stream_model.specs.Streams.{FromTo, Grew, Takes, TakesCount}
+use Rattle.stream_model.specs.Streams.{FromTo, CountsFault, Grew, Takes, TakesCount}
 
 pub FromTo-joins : (a b c : Option (List ℕ)) (R S T : List ℕ → List ℕ → Type 0) → ((x y z : List ℕ) → R x y → S y z → T x z) → FromTo a b R → FromTo b c S → FromTo a c T
 FromTo-joins None None None R S T f r s = tt
@@ -35,3 +35,7 @@ TakesCount-joins a b c n m k e r s =
 -- a count that grew by so many, and then by so many
 pub Grew-joins : (a b c n m k : ℕ) → n + m ≡ k → Grew a n b → Grew b m c → Grew a k c
 Grew-joins a b c n m k e r s = omega arith
+
+-- a fault that was counted, where the count had stood still before
+pub CountsFault-after : (a b c : ℕ) → b ≡ a → CountsFault b c → CountsFault a c
+CountsFault-after a b c e f = rw (← e) f

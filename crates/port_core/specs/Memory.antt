@@ -1,7 +1,7 @@
 -- What a source or a sink in memory is, and what its next call answers and leaves.
 use Rattle.std.specs.Prelude.{ℕ, ◌+◌, ◌-◌, ◌<◌, ◌≤◌, ◌==◌, min, nat_le, List, ◌++◌, length, take, drop, Option, Some, None, Bool, false, if◌then◌else◌}
 use Rattle.std.specs.Option.{ForSome}
-use Rattle.stream_model.specs.Streams.{last_count}
+use Rattle.stream_model.specs.Streams.{SourceState, SinkState, last_count}
 use Rattle.port_core.specs.declared.ports.Pull.{Pull}
 use Rattle.port_core.specs.declared.ports.Pull.TheVariants as pull
 use Rattle.port_core.specs.declared.ports.Push.{Push}
@@ -14,6 +14,10 @@ pub record Supply : Type 0 where
   pub piece : ℕ
   pub fail_at : Option ℕ
   pub faults : ℕ
+
+-- what is seen of a source in memory
+abbrev pub supply_seen : Supply → SourceState
+supply_seen s = record { left = Some s.left; taken = s.taken; faults = s.faults }
 
 -- the source stands at the place at which it fails, if there is one
 abbrev pub is_at : Option ℕ → ℕ → Bool
@@ -58,6 +62,10 @@ pub record IsStore (bytes : List ℕ) (room capacity faults : ℕ) : Type 0 wher
   pub within : length bytes ≤ room
   pub taken : room ≤ capacity
   pub counted : faults ≤ last_count
+
+-- what is seen of a sink in memory
+abbrev pub store_seen : Store → SinkState
+store_seen s = record { held = Some s.bytes; faults = s.faults }
 
 -- what a push of bytes answers
 abbrev pub push_answer : Store → List ℕ → Push

@@ -1,7 +1,8 @@
 -- What a line reader has, and what a call of it gives and leaves, by its answer.
-use Rattle.std.specs.Prelude.{◌≡◌, ℕ, ◌+◌, ◌-◌, ◌*◌, ◌^◌, ◌<◌, ◌≤◌, ◌⊎◌, List, [], ◌∷◌, ◌++◌, length, Option, Some, None, option_map}
-use Rattle.stream_model.specs.Streams.{Rose}
-use Rattle.stream_model.specs.Lines.{newline, max_line, lines, IsUnbroken}
+use Rattle.std.specs.Prelude.{◌≡◌, ℕ, ◌+◌, ◌-◌, ◌*◌, ◌<◌, ◌≤◌, ◌⊎◌, List, [], ◌∷◌, ◌++◌, length, Option, Some, None, option_map}
+use Rattle.stream_model.specs.Streams.{SourceState, CountsFault}
+use Rattle.stream_model.specs.Lines.{newline, lines, IsUnbroken}
+use Rattle.stream_model.specs.declared.limits.TheConstants.{MAX_LINE, MAX_TAKEN}
 use Rattle.port_core.specs.declared.reader.Line.{Line}
 use Rattle.port_core.specs.declared.reader.Line.TheVariants.{Whole, TooLong, End, Failed, Spent}
 
@@ -15,10 +16,6 @@ pub record Reader : Type 0 where
 -- a reader that has read nothing yet
 abbrev pub fresh : Reader
 fresh = record { pending = []; taken = 0; line = []; stopped = None }
-
--- how many bytes a reader takes in its life
-abbrev pub max_taken : ℕ
-max_taken = 2 ^ 32
 
 -- what is ahead of a reader: what it has pending, and then what the source has left
 abbrev pub ahead : List ℕ → Option (List ℕ) → Option (List ℕ)
@@ -37,8 +34,8 @@ pub record IsFirstLine (line : List ℕ) (stopped : Option Line) (all rest : Lis
 
 -- what a call gives, by its answer: the line kept, whether the reader stopped, the bytes ahead before and after
 abbrev pub Gives : Line → List ℕ → Option Line → List ℕ → List ℕ → Type 0
-Gives Whole kept stopped all rest = IsFirstLine kept stopped all rest × (length kept ≤ max_line)
-Gives TooLong kept stopped all rest = (line : List ℕ) × IsFirstLine line stopped all rest × (max_line < length line)
+Gives Whole kept stopped all rest = IsFirstLine kept stopped all rest × (length kept ≤ MAX_LINE)
+Gives TooLong kept stopped all rest = (line : List ℕ) × IsFirstLine line stopped all rest × (MAX_LINE < length line)
 Gives End kept stopped all rest = (all ≡ []) × (rest ≡ [])
 Gives Failed kept stopped all rest = (part : List ℕ) × IsUnbroken part × (all ≡ part ++ rest)
 Gives Spent kept stopped all rest = (part : List ℕ) × IsUnbroken part × (all ≡ part ++ rest)
@@ -61,7 +58,7 @@ Stops Spent r = HasStopped Spent r
 
 -- a line is kept after `Whole` alone, and then it is not too long
 abbrev pub KeepsLine : Line → List ℕ → Type 0
-KeepsLine Whole line = length line ≤ max_line
+KeepsLine Whole line = length line ≤ MAX_LINE
 KeepsLine TooLong line = line ≡ []
 KeepsLine End line = line ≡ []
 KeepsLine Failed line = line ≡ []
@@ -69,24 +66,24 @@ KeepsLine Spent line = line ≡ []
 
 -- a reader that has come to the end of the source took fewer bytes than it may
 abbrev pub EndsEarly : Reader → Type 0
-EndsEarly r = r.stopped ≡ Some End → r.taken < max_taken
+EndsEarly r = r.stopped ≡ Some End → r.taken < MAX_TAKEN
 
 -- whether a reader took all that it may in its life, by its answer
 abbrev pub Spends : Line → Reader → Type 0
 Spends Whole r = EndsEarly r
 Spends TooLong r = EndsEarly r
-Spends End r = r.taken < max_taken
-Spends Failed r = r.taken < max_taken
-Spends Spent r = r.taken ≡ max_taken
+Spends End r = r.taken < MAX_TAKEN
+Spends Failed r = r.taken < MAX_TAKEN
+Spends Spent r = r.taken ≡ MAX_TAKEN
 
--- a source's count of faults before and after a call: it rises only where a reader that had not stopped answers `Failed`
-abbrev pub CountsFaults : Option Line → Line → ℕ → ℕ → Type 0
-CountsFaults None Failed faults faults' = (faults ≤ faults') × Rose faults faults'
-CountsFaults None Whole faults faults' = faults' ≡ faults
-CountsFaults None TooLong faults faults' = faults' ≡ faults
-CountsFaults None End faults faults' = faults' ≡ faults
-CountsFaults None Spent faults faults' = faults' ≡ faults
-CountsFaults (Some stop) answer faults faults' = faults' ≡ faults
+-- the source's count of faults rises only where a reader that had not stopped answers `Failed`
+abbrev pub CountsFaults : Option Line → Line → SourceState → SourceState → Type 0
+CountsFaults None Failed old new = CountsFault old.faults new.faults
+CountsFaults None Whole old new = new.faults ≡ old.faults
+CountsFaults None TooLong old new = new.faults ≡ old.faults
+CountsFaults None End old new = new.faults ≡ old.faults
+CountsFaults None Spent old new = new.faults ≡ old.faults
+CountsFaults (Some stop) answer old new = new.faults ≡ old.faults
 
 -- one step for a reader that has not stopped
 abbrev pub going : Option Line → ℕ
@@ -95,7 +92,7 @@ going (Some stop) = 0
 
 -- how much a reader can still do: it falls with each line
 abbrev pub work : Reader → ℕ
-work r = 2 * (max_taken - r.taken) + length r.pending + going r.stopped
+work r = 2 * (MAX_TAKEN - r.taken) + length r.pending + going r.stopped
 
 -- the work falls with a line, by the answer
 abbrev pub WorksOff : Line → Reader → Reader → Type 0

@@ -1,21 +1,19 @@
--- What is known of a source over a reader and of a sink over a writer: no more than the reader or the writer tells.
-use Rattle.std.specs.Prelude.{ℕ, ◌≤◌, List, [], length, take, Option}
+-- A source over a reader and a sink over a writer: what a call does to the bytes of a reader or a writer that tells them.
+use Rattle.std.specs.Prelude.{ℕ, ◌≤◌, List, [], length, take, Option, None}
 use Rattle.std.specs.Io.KnownBytes.{Keeps, Appends, Consumes, IsAtEnd}
+use Rattle.stream_model.specs.Streams.{SourceState, SinkState}
 use Rattle.port_core.specs.declared.ports.Pull.{Pull}
 use Rattle.port_core.specs.declared.ports.Pull.TheVariants as pull
 use Rattle.port_core.specs.declared.ports.Push.{Push}
 use Rattle.port_core.specs.declared.ports.Push.TheVariants as push
 
--- the bytes that the reader still has, where it tells them, how many were taken, and how often it failed
-pub record Inlet : Type 0 where
-  pub unread : Option (List ℕ)
-  pub taken : ℕ
-  pub faults : ℕ
+-- what is seen of a source over a reader: no bytes, whatever the reader tells
+abbrev pub inlet_seen : SourceState → SourceState
+inlet_seen s = record s { left = None }
 
--- the bytes that the writer has, where it tells them, and how often it failed
-pub record Outlet : Type 0 where
-  pub written : Option (List ℕ)
-  pub faults : ℕ
+-- what is seen of a sink over a writer: no bytes, whatever the writer tells
+abbrev pub outlet_seen : SinkState → SinkState
+outlet_seen s = record s { held = None }
 
 -- what a pull into buf takes of a reader that tells its bytes
 abbrev pub ReadsOf : Pull → List ℕ → Option (List ℕ) → Option (List ℕ) → Type 0
@@ -26,4 +24,5 @@ ReadsOf pull.Failed buf unread unread' = Keeps unread unread'
 -- what a push of bytes gives a writer that tells its bytes: all of them, or a part where it failed
 abbrev pub WritesTo : Push → List ℕ → Option (List ℕ) → Option (List ℕ) → Type 0
 WritesTo push.Done bytes written written' = Appends written written' bytes
-WritesTo push.Failed bytes written written' = (k : ℕ) × (k ≤ length bytes) × Appends written written' (take k bytes)
+WritesTo push.Failed bytes written written' =
+    (k : ℕ) × (k ≤ length bytes) × Appends written written' (take k bytes)

@@ -1,5 +1,5 @@
 ghost use Rattle.std.specs.Prelude.{◌≡◌, ◌↔◌, ◌+◌, ◌<◌, ◌≤◌, [], ◌++◌, length, IsTrue, IfOk};
-ghost use Rattle.stream_model.specs.Lines.{max_line};
+ghost use Rattle.stream_model.specs.declared.limits.TheConstants.{MAX_LINE};
 ghost use Rattle.port_core.specs.Draft.{Absorbs, Settles};
 
 use crate::NoMemory;
@@ -7,11 +7,9 @@ use crate::bytes::append;
 use crate::reader::Line;
 use std::alloc::Global;
 use std::marker::Model;
+use stream_model::MAX_LINE;
 
-/// How many bytes a line may have, its newline not counted.
-const MAX_LINE: usize = 4_194_304;
-
-/// How many bytes of a line are kept: one more than a line may have shows that it is too long.
+/// The most bytes of a line that are kept: one more than a line may have shows that it is too long.
 const ROOM: usize = MAX_LINE + 1;
 
 /// What is kept of a line. Its room is taken when it is made.
@@ -22,13 +20,13 @@ pub struct Draft {
 
 impl Model for Draft {
     ghost use Rattle.std.specs.Prelude.{ℕ, ◌+◌, ◌≤◌, List, length, vec_capacity};
-    ghost use Rattle.stream_model.specs.Lines.{max_line};
+    ghost use Rattle.stream_model.specs.declared.limits.TheConstants.{MAX_LINE};
 
     ghost Value = { List ℕ };
 
     ghost view = { λ d. d.bytes.items };
 
-    ghost invariant = { λ d. (length d.bytes.items ≤ max_line + 1) × (max_line + 1 ≤ vec_capacity d.bytes) };
+    ghost invariant = { λ d. (length d.bytes.items ≤ MAX_LINE + 1) × (MAX_LINE + 1 ≤ vec_capacity d.bytes) };
 }
 
 impl Draft {

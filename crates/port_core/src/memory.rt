@@ -1,6 +1,6 @@
-ghost use Rattle.std.specs.Prelude.{◌≡◌, ◌+◌, ◌-◌, ◌<◌, ◌≤◌, [], ◌++◌, length, take, drop, Some, IfOk};
+ghost use Rattle.std.specs.Prelude.{◌≡◌, ◌+◌, ◌-◌, ◌<◌, ◌≤◌, [], ◌++◌, length, take, drop, IfOk};
 ghost use Rattle.port_core.specs.Ports.{Pulls, Pushes};
-ghost use Rattle.port_core.specs.Memory.{is_at, up_to, pull_answer, after_pull, push_answer, after_push};
+ghost use Rattle.port_core.specs.Memory.{supply_seen, store_seen, is_at, up_to, pull_answer, after_pull, push_answer, after_push};
 
 use crate::NoMemory;
 use crate::bytes::{append, copy_piece};
@@ -52,15 +52,11 @@ impl MemSource {
 }
 
 impl Source for MemSource {
-    ghost left = { λ s. Some s.left };
-
-    ghost taken = { λ s. s.taken };
-
-    ghost faults = { λ s. s.faults };
+    ghost seen = { supply_seen };
 
     fn pull(&mut self, buf: &mut [u8]) -> Pull
         requires { 0 < length buf.old }
-        ensures pulls { Pulls result buf.new (Some self.old.left) (Some self.new.left) self.old.taken self.new.taken self.old.faults self.new.faults }
+        ensures pulls { Pulls result buf.new (supply_seen self.old) (supply_seen self.new) }
         ensures answer { result ≡ pull_answer self.old (length buf.old) }
         ensures after { self.new ≡ after_pull self.old result }
     {
@@ -140,12 +136,10 @@ impl MemSink {
 }
 
 impl Sink for MemSink {
-    ghost held = { λ s. Some s.bytes };
-
-    ghost faults = { λ s. s.faults };
+    ghost seen = { store_seen };
 
     fn push(&mut self, bytes: &[u8]) -> Push
-        ensures pushes { Pushes result bytes.now (Some self.old.bytes) (Some self.new.bytes) self.old.faults self.new.faults }
+        ensures pushes { Pushes result bytes.now (store_seen self.old) (store_seen self.new) }
         ensures answer { result ≡ push_answer self.old bytes.now }
         ensures after { self.new ≡ after_push self.old bytes.now result }
     {

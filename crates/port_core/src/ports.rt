@@ -1,10 +1,12 @@
-ghost use Rattle.std.specs.Prelude.{ℕ, ◌<◌, List, length, Option};
+//! Where bytes come from and go to.
+ghost use Rattle.std.specs.Prelude.{◌<◌, length};
+ghost use Rattle.stream_model.specs.Streams.{SourceState, SinkState};
 ghost use Rattle.port_core.specs.Ports.{Pulls, Pushes};
 
 /// What a pull answers.
 #[derive(Clone, Copy, Debug, PartialEq, Eq)]
 pub enum Pull {
-    /// So many bytes, at least one, stand in the front of the buffer.
+    /// That many bytes, at least one, are in the front of the buffer.
     Bytes(usize),
     /// The source has ended.
     End,
@@ -23,27 +25,23 @@ pub enum Push {
 
 /// Where bytes come from.
 pub trait Source {
-    /// The bytes that are left, where the source tells them.
-    ghost left: { Self → Option (List ℕ) };
-    /// How many bytes were taken, up to the last value of a `u64`.
-    ghost taken: { Self → ℕ };
-    /// How often the source failed, up to the last value of a `u64`.
-    ghost faults: { Self → ℕ };
+    /// What is seen of the source: the bytes left where it tells them, how many were taken and how
+    /// often it failed, both up to the last value of a `u64`.
+    ghost seen: { Self → SourceState };
 
-    /// Takes the next bytes into the front of `buf`.
+    /// Takes the next bytes into the front of `buf`, which is not empty.
     fn pull(&mut self, buf: &mut [u8]) -> Pull
         requires { 0 < length buf.old }
-        ensures { Pulls result buf.new (left self.old) (left self.new) (taken self.old) (taken self.new) (faults self.old) (faults self.new) };
+        ensures { Pulls result buf.new (seen self.old) (seen self.new) };
 }
 
 /// Where bytes go.
 pub trait Sink {
-    /// The bytes that the sink holds, where it tells them.
-    ghost held: { Self → Option (List ℕ) };
-    /// How often the sink failed, up to the last value of a `u64`.
-    ghost faults: { Self → ℕ };
+    /// What is seen of the sink: the bytes that it holds where it tells them, and how often it
+    /// failed, up to the last value of a `u64`.
+    ghost seen: { Self → SinkState };
 
-    /// Hands over `bytes`.
+    /// Appends `bytes` to what the sink holds.
     fn push(&mut self, bytes: &[u8]) -> Push
-        ensures { Pushes result bytes.now (held self.old) (held self.new) (faults self.old) (faults self.new) };
+        ensures { Pushes result bytes.now (seen self.old) (seen self.new) };
 }

@@ -1,6 +1,7 @@
 ghost use Rattle.std.specs.Prelude.{◌≡◌, ◌-◌, ◌≤◌, [], IfOk, IfNone, IfSome, OnSome, None};
 ghost use Rattle.stream_model.specs.Streams.{FromTo, Grew, TakesCount};
-ghost use Rattle.port_core.specs.Reader.{fresh, max_taken, ahead, Gives, Stops, KeepsLine, Spends, CountsFaults, WorksOff};
+ghost use Rattle.stream_model.specs.declared.limits.TheConstants.{MAX_TAKEN};
+ghost use Rattle.port_core.specs.Reader.{fresh, ahead, Gives, Stops, KeepsLine, Spends, CountsFaults, WorksOff};
 ghost use Rattle.port_core.specs.Reads.{Reads};
 
 use crate::NoMemory;
@@ -60,8 +61,12 @@ impl LineReader {
     /// Reads the next line. After `End`, `Failed` or `Spent` each further call answers the same, and leaves the source alone.
     pub fn next<I: Source>(&mut self, source: &mut I) -> Line
         // What is read, where the source tells its bytes.
-        ensures lines { IfNone self.old.stopped (FromTo (ahead self.old.pending (I.left source.old)) (ahead self.new.pending (I.left source.new)) (Gives result self.new.line self.new.stopped)) }
-        ensures told { TakesCount (I.left source.old) (I.left source.new) (self.new.taken - self.old.taken) }
+        ensures lines { IfNone self.old.stopped (FromTo
+            (ahead self.old.pending (I.seen source.old).left)
+            (ahead self.new.pending (I.seen source.new).left)
+            (Gives result self.new.line self.new.stopped)) }
+        ensures told { TakesCount (I.seen source.old).left (I.seen source.new).left
+            (self.new.taken - self.old.taken) }
 
         // What the reader keeps, and whether it goes on.
         ensures kept { KeepsLine result self.new.line }
@@ -69,13 +74,14 @@ impl LineReader {
 
         // How many bytes it takes in its life.
         ensures forward { self.old.taken ≤ self.new.taken }
-        ensures bounded { self.new.taken ≤ max_taken }
-        ensures taken { Grew (I.taken source.old) (self.new.taken - self.old.taken) (I.taken source.new) }
+        ensures bounded { self.new.taken ≤ MAX_TAKEN }
+        ensures taken { Grew (I.seen source.old).taken (self.new.taken - self.old.taken)
+            (I.seen source.new).taken }
         ensures spent { Spends result self.new }
         ensures work { WorksOff result self.old self.new }
 
         // When the source fails.
-        ensures faults { CountsFaults self.old.stopped result (I.faults source.old) (I.faults source.new) }
+        ensures faults { CountsFaults self.old.stopped result (I.seen source.old) (I.seen source.new) }
 
         // What stays the same once the reader has stopped.
         ensures again { IfSome self.old.stopped (λ answer. result ≡ answer) }
@@ -101,7 +107,7 @@ impl LineReader {
     /// Reads the next line, where the reader has not stopped.
     fn read<I: Source>(&mut self, source: &mut I) -> Line
         requires { self.old.stopped ≡ None }
-        ensures { Reads result self.old self.new (I.left source.old) (I.left source.new) (I.taken source.old) (I.taken source.new) (I.faults source.old) (I.faults source.new) }
+        ensures { Reads result self.old self.new (I.seen source.old) (I.seen source.new) }
     {
         self.draft.clear();
         match self.window.collect(&mut self.draft, source) {

@@ -1,7 +1,7 @@
-ghost use Rattle.std.specs.Prelude.{◌≡◌, ◌<◌, length, None};
+ghost use Rattle.std.specs.Prelude.{◌≡◌, ◌<◌, length};
 ghost use Rattle.stream_model.specs.Streams.{Grew};
 ghost use Rattle.port_core.specs.Ports.{Pulls, Pushes};
-ghost use Rattle.port_core.specs.Standard.{ReadsOf, WritesTo};
+ghost use Rattle.port_core.specs.Standard.{inlet_seen, outlet_seen, ReadsOf, WritesTo};
 
 use crate::ports::{Pull, Push, Sink, Source};
 use std::io::{Read, Write};
@@ -17,11 +17,11 @@ pub struct StdSource<R: Read + Drop> {
 
 impl<R: Read + Drop> Model for StdSource<R> {
     ghost use Rattle.std.specs.Prelude.{◌<◌, ◌^◌};
-    ghost use Rattle.port_core.specs.Standard.{Inlet};
+    ghost use Rattle.stream_model.specs.Streams.{SourceState};
 
-    ghost Value = { Inlet };
+    ghost Value = { SourceState };
 
-    ghost view = { λ s. record { unread = R.remaining s.reader; taken = s.taken; faults = s.faults } };
+    ghost view = { λ s. record { left = R.remaining s.reader; taken = s.taken; faults = s.faults } };
 
     ghost invariant = { λ s. (s.taken < 2 ^ 64) × (s.faults < 2 ^ 64) };
 }
@@ -29,7 +29,7 @@ impl<R: Read + Drop> Model for StdSource<R> {
 impl<R: Read + Drop> StdSource<R> {
     /// A source of what `reader` gives. Each error of the reader is a fault, and a read of no byte is the end.
     pub fn new(reader: R) -> StdSource<R>
-        ensures { result ≡ record { unread = R.remaining reader; taken = 0; faults = 0 } }
+        ensures { result ≡ record { left = R.remaining reader; taken = 0; faults = 0 } }
     {
         StdSource {
             reader,
@@ -40,16 +40,12 @@ impl<R: Read + Drop> StdSource<R> {
 }
 
 impl<R: Read + Drop> Source for StdSource<R> {
-    ghost left = { λ _. None };
-
-    ghost taken = { λ s. s.taken };
-
-    ghost faults = { λ s. s.faults };
+    ghost seen = { inlet_seen };
 
     fn pull(&mut self, buf: &mut [u8]) -> Pull
         requires { 0 < length buf.old }
-        ensures pulls { Pulls result buf.new None None self.old.taken self.new.taken self.old.faults self.new.faults }
-        ensures reads { ReadsOf result buf.new self.old.unread self.new.unread }
+        ensures pulls { Pulls result buf.new (inlet_seen self.old) (inlet_seen self.new) }
+        ensures reads { ReadsOf result buf.new self.old.left self.new.left }
     {
         match self.reader.read(buf) {
             Ok(count) => {
@@ -83,11 +79,11 @@ pub struct StdSink<W: Write + Drop> {
 
 impl<W: Write + Drop> Model for StdSink<W> {
     ghost use Rattle.std.specs.Prelude.{◌<◌, ◌^◌};
-    ghost use Rattle.port_core.specs.Standard.{Outlet};
+    ghost use Rattle.stream_model.specs.Streams.{SinkState};
 
-    ghost Value = { Outlet };
+    ghost Value = { SinkState };
 
-    ghost view = { λ s. record { written = W.contents s.writer; faults = s.faults } };
+    ghost view = { λ s. record { held = W.contents s.writer; faults = s.faults } };
 
     ghost invariant = { λ s. s.faults < 2 ^ 64 };
 }
@@ -96,20 +92,18 @@ impl<W: Write + Drop> StdSink<W> {
     /// A sink that hands its bytes to `writer`, and flushes it after each push.
     /// Each error of the writer is a fault, and so is a write that takes nothing.
     pub fn new(writer: W) -> StdSink<W>
-        ensures { result ≡ record { written = W.contents writer; faults = 0 } }
+        ensures { result ≡ record { held = W.contents writer; faults = 0 } }
     {
         StdSink { writer, faults: 0 }
     }
 }
 
 impl<W: Write + Drop> Sink for StdSink<W> {
-    ghost held = { λ _. None };
-
-    ghost faults = { λ s. s.faults };
+    ghost seen = { outlet_seen };
 
     fn push(&mut self, bytes: &[u8]) -> Push
-        ensures pushes { Pushes result bytes.now None None self.old.faults self.new.faults }
-        ensures writes { WritesTo result bytes.now self.old.written self.new.written }
+        ensures pushes { Pushes result bytes.now (outlet_seen self.old) (outlet_seen self.new) }
+        ensures writes { WritesTo result bytes.now self.old.held self.new.held }
     {
         match write_flushed(&mut self.writer, bytes) {
             Push::Done => Push::Done,

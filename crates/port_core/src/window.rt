@@ -1,7 +1,7 @@
 ghost use Rattle.std.specs.Prelude.{◌≡◌, ◌<◌, ◌≤◌, [], length, take, drop, IfOk};
 ghost use Rattle.port_core.specs.Ports.{Pulls};
-ghost use Rattle.port_core.specs.Reader.{max_taken};
-ghost use Rattle.port_core.specs.Window.{Cuts, Refills, RefillCounts, Collects, StopCounts};
+ghost use Rattle.stream_model.specs.declared.limits.TheConstants.{MAX_TAKEN};
+ghost use Rattle.port_core.specs.Window.{Cuts, Refills, Collects};
 
 use crate::NoMemory;
 use crate::draft::Draft;
@@ -9,9 +9,7 @@ use crate::ports::{Pull, Source};
 use memchr::memchr;
 use std::alloc::Global;
 use std::marker::Model;
-
-/// How many bytes a reader takes in its life.
-const MAX_TAKEN: u64 = 4_294_967_296;
+use stream_model::MAX_TAKEN;
 
 /// How many bytes a pull asks for.
 const CHUNK: usize = 65_536;
@@ -129,8 +127,7 @@ impl Window {
     /// Pulls once, where nothing is pending.
     fn refill<I: Source>(&mut self, source: &mut I) -> Refill
         requires { self.old.pending ≡ [] }
-        ensures bytes { Refills result self.old self.new (I.left source.old) (I.left source.new) (I.taken source.old) (I.taken source.new) }
-        ensures faults { RefillCounts result (I.faults source.old) (I.faults source.new) }
+        ensures { Refills result self.old self.new (I.seen source.old) (I.seen source.new) }
     {
         let room = (MAX_TAKEN - self.taken).min(self.chunk.len() as u64) as usize;
         if room == 0 {
@@ -152,9 +149,8 @@ impl Window {
     /// Moves the next line into `draft`, as far as the source gives it.
     pub fn collect<I: Source>(&mut self, draft: &mut Draft, source: &mut I) -> Stop
         requires empty { draft.old ≡ [] }
-        requires within { self.old.taken ≤ max_taken }
-        ensures bytes { Collects result self.old self.new draft.new (I.left source.old) (I.left source.new) (I.taken source.old) (I.taken source.new) }
-        ensures faults { StopCounts result (I.faults source.old) (I.faults source.new) }
+        requires within { self.old.taken ≤ MAX_TAKEN }
+        ensures { Collects result self.old self.new draft.new (I.seen source.old) (I.seen source.new) }
     {
         loop {
             match self.cut(draft) {
@@ -175,7 +171,7 @@ impl Window {
 fn pull_front<I: Source>(chunk: &mut [u8], room: usize, source: &mut I) -> Pull
     requires some { 0 < room }
     requires within { room ≤ length chunk.old }
-    ensures { Pulls result (take room chunk.new) (I.left source.old) (I.left source.new) (I.taken source.old) (I.taken source.new) (I.faults source.old) (I.faults source.new) }
+    ensures { Pulls result (take room chunk.new) (I.seen source.old) (I.seen source.new) }
 {
     source.pull(&mut chunk[..room])
 }

@@ -7,8 +7,8 @@ use Rattle.dom_arena.specs.Children.{AreFound}
 use Rattle.layout_model.specs.Boxes.{Box}
 use Rattle.relayout_cli.proofs.ReplyLemmas.{OnOk-after}
 use Rattle.reply_model.specs.DumpText.{box_line, box_lines, all_box_lines}
-use Rattle.relayout_cli.specs.Flat.{flat, all_flat}
-use Rattle.relayout_cli.specs.Walk.{node_at, nodes_at, Reaches, AllReach}
+use Rattle.relayout_cli.specs.inner.Flat.{flat_box, all_flat}
+use Rattle.relayout_cli.specs.inner.Walk.{node_at, nodes_at, Reaches, AllReach}
 
 reach-found : (levels : ℕ) (ns : Nodes) (root : Node) → AreFound root ns → heights ns ≤ levels → AllReach levels (ids_of ns) root
 reach-found levels no_nodes root f h = tt
@@ -32,7 +32,7 @@ nodes-found (node n ns) root f = rw f.0 (ap (node n) (nodes-found ns root f.1))
 
 lines-at : (width : ℤ) (i : ℕ) (root : Node) (tag : List ℕ) (o : Option Node) → find i root ≡ o → id_of (unwrap_or o (text i [])) ≡ i → ((n : Node) → find i root ≡ Some n → AreFound root (kids_of n))
     → Some tag ≡ option_map encode_utf8_all (option_and_then name_of o)
-    → box_line i tag (pos 0) (pos 0) (flat width) ++ all_box_lines (all_flat width) (pos 0) (pos 0) (nodes_at (unwrap_or (option_map (λ n. ids_of (kids_of n)) o) []) root)
+    → box_line i tag (pos 0) (pos 0) (flat_box width) ++ all_box_lines (all_flat width) (pos 0) (pos 0) (nodes_at (unwrap_or (option_map (λ n. ids_of (kids_of n)) o) []) root)
     ≡ box_lines (all_flat width) (pos 0) (pos 0) (unwrap_or o (text i []))
 lines-at width i root tag None e number found t = absurd (cc)
 lines-at width i root tag (Some (element id name attributes kids)) e number found t =
@@ -44,12 +44,12 @@ lines-at width i root tag (Some (text id cs)) e number found t = absurd (cc)
 -- an element's line and then those of its children were appended
 pub OnOk-node : {T E : Type 0} (r : Result T E) (new mid old : List ℕ) (width : ℤ) (levels i : ℕ) (root : Node) (tag : List ℕ) (box : Box) (kids : List ℕ)
     → OnOk r (new ≡ mid ++ all_box_lines (all_flat width) (pos 0) (pos 0) (nodes_at kids root)) → kids ≡ child_ids i root
-    → mid ≡ old ++ box_line i tag box.left box.top box → box ≡ flat width
+    → mid ≡ old ++ box_line i tag box.left box.top box → box ≡ flat_box width
     → Reaches levels i root → ((n : Node) → find i root ≡ Some n → AreFound root (kids_of n)) → Some tag ≡ option_map encode_utf8_all (option_and_then name_of (find i root))
     → OnOk r (new ≡ old ++ box_lines (all_flat width) (pos 0) (pos 0) (node_at i root))
 OnOk-node r new mid old width levels i root tag box kids h are e f reach found t =
     let lower : List ℕ = all_box_lines (all_flat width) (pos 0) (pos 0) (nodes_at kids root) in
     OnOk-after r new mid old (box_line i tag box.left box.top box) lower (box_lines (all_flat width) (pos 0) (pos 0) (node_at i root)) h e
     (ap (λ (b : Box). box_line i tag b.left b.top b ++ lower) f
-    ∙ (ap (λ (ids : List ℕ). box_line i tag (pos 0) (pos 0) (flat width) ++ all_box_lines (all_flat width) (pos 0) (pos 0) (nodes_at ids root)) are
+    ∙ (ap (λ (ids : List ℕ). box_line i tag (pos 0) (pos 0) (flat_box width) ++ all_box_lines (all_flat width) (pos 0) (pos 0) (nodes_at ids root)) are
     ∙ lines-at width i root tag (find i root) refl reach.number found t))

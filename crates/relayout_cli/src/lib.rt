@@ -1,9 +1,9 @@
 //! The program `relayout`: scripts of requests in, replies out.
 #![tactic(auto)]
 
+mod apply;
 mod boxes;
 mod dump;
-mod edits;
 mod page;
 mod plain;
 mod replies;
@@ -11,8 +11,6 @@ mod respond;
 mod running;
 mod serving;
 mod status;
-#[cfg(test)]
-mod tests;
 
 pub use running::run;
 pub use serving::serve;

@@ -1,45 +1,41 @@
-ghost use Rattle.std.specs.Prelude.{◌≡◌, Some, IfOk, option_map, codes};
+//! The grammar of requests.
+ghost use Rattle.std.specs.Prelude.{◌≡◌, Some, IfOk};
 ghost use Rattle.serde_json.specs.View.{view};
-ghost use Rattle.request_model.specs.Requests.{asked_of, is_one_of, is_not_built, names_not_built, request_named, request_of, load_of, insert_of, remove_of, dump_of, doc_at, tree_at, texts_at};
-ghost use Rattle.dom_arena.specs.Shape.{shape};
-ghost use Rattle.relayout_requests.specs.Views.{asked_view, request_view};
+ghost use Rattle.request_model.specs.Requests.{asked_of, is_name_not_built, request_named, load_of, insert_of, remove_of, dump_of};
+ghost use Rattle.relayout_requests.specs.Views.{asked_view, request_view, edit_view};
+ghost use Rattle.relayout_requests.specs.Reads.{Reads};
 
-use crate::members::{count_members, number_of, string_of, texts_in};
-use crate::refusal::Refusal;
-use crate::request::{Asked, Edit, Insert, Load, Request};
-use dom_arena::Tree;
-use jsonml_reader::{TreeFault, read_tree};
-use port_core::{NoMemory, Seq, Text};
+use crate::members::{count_members, doc_at, number_at, string_at, texts_at, tree_at};
+use crate::request::{Asked, Edit, Request};
+use crate::unread::Unread;
+use page_model::Cause;
+use port_core::NoMemory;
+use request_model::Query;
 use serde_json::Value;
 use std::alloc::Global;
 
-/// What a value asks for.
+/// Returns what a value asks for.
+#[tactic(auto, unfolding(request_model::specs::Requests::asked_of))]
 pub fn ask_value(alloc: Global, value: &Value) -> Result<Asked, NoMemory>
     ensures { IfOk result (λ a. asked_view a ≡ asked_of (Some (view value.now))) }
 {
-    if is_not_built_value(value) {
-        return Ok(Asked::Broken(Refusal::NotBuilt));
+    let Some(name) = string_at(value, "do") else {
+        return Ok(Asked::Broken(Cause::BadRequest));
+    };
+    if is_name_not_built(name) {
+        return Ok(Asked::Broken(Cause::NotBuilt));
     }
-    match read_request(alloc, value)? {
-        Some(request) => Ok(Asked::Request(request)),
-        None => Ok(Asked::Broken(Refusal::BadRequest)),
-    }
-}
-
-/// Whether a value is an object that asks, by its member `do`, for what is not built yet.
-#[tactic(auto, unfolding(request_model::specs::Requests::is_not_built, request_model::specs::Requests::do_of))]
-fn is_not_built_value(value: &Value) -> bool
-    ensures { result ≡ is_not_built (view value.now) }
-{
-    match string_of(value, "do") {
-        Some(name) => is_name_not_built(name),
-        None => false,
+    match read_named(alloc, name, value) {
+        Ok(request) => Ok(Asked::Request(request)),
+        Err(Unread::BadRequest) => Ok(Asked::Broken(Cause::BadRequest)),
+        Err(Unread::NoMemory) => Err(NoMemory),
     }
 }
 
-/// The requests that are known and not built yet.
+/// Returns whether requests of this name are known and not built yet.
+#[tactic(auto, unfolding(request_model::specs::Requests::is_name_not_built))]
 fn is_name_not_built(name: &str) -> bool
-    ensures { result ≡ is_one_of name.now names_not_built }
+    ensures { result ≡ is_name_not_built name.now }
 {
     matches!(
         name,
@@ -56,135 +52,74 @@ fn is_name_not_built(name: &str) -> bool
     )
 }
 
-/// The request that a value is, or nothing.
-#[tactic(auto, unfolding(request_model::specs::Requests::request_of, request_model::specs::Requests::do_of))]
-fn read_request(alloc: Global, value: &Value) -> Result<Option<Request>, NoMemory>
-    ensures { IfOk result (λ q. option_map request_view q ≡ request_of (view value.now)) }
+/// Reads the request `name`.
+#[tactic(auto, unfolding(request_model::specs::Requests::request_named))]
+fn read_named(alloc: Global, name: &str, value: &Value) -> Result<Request, Unread>
+    ensures { Reads request_view result (request_named name.now (view value.now)) }
 {
-    match string_of(value, "do") {
-        Some(name) => read_named(alloc, name, value),
-        None => Ok(None),
-    }
-}
-
-/// The request of this name that a value is, or nothing.
-fn read_named(alloc: Global, name: &str, value: &Value) -> Result<Option<Request>, NoMemory>
-    ensures { IfOk result (λ q. option_map request_view q ≡ request_named name.now (view value.now)) }
-{
-    if name == "load" {
-        read_load(alloc, value)
-    } else if name == "insert" {
-        read_insert(alloc, value)
-    } else if name == "remove" {
-        Ok(read_remove(value))
-    } else if name == "dump" {
-        Ok(read_dump(value))
-    } else {
-        Ok(None)
-    }
-}
-
-#[tactic(auto, unfolding(request_model::specs::Requests::dump_of))]
-fn read_dump(value: &Value) -> Option<Request>
-    ensures { option_map request_view result ≡ dump_of (view value.now) }
-{
-    if count_members(value) == 1 {
-        Some(Request::Dump)
-    } else {
-        None
+    match name {
+        "load" => Ok(Request::Edit(read_load(alloc, value)?)),
+        "insert" => Ok(Request::Edit(read_insert(alloc, value)?)),
+        "remove" => Ok(Request::Edit(read_remove(value)?)),
+        "dump" => Ok(Request::Query(read_dump(value)?)),
+        _ => Err(Unread::BadRequest),
     }
 }
 
 #[tactic(auto, unfolding(request_model::specs::Requests::load_of))]
-fn read_load(alloc: Global, value: &Value) -> Result<Option<Request>, NoMemory>
-    ensures { IfOk result (λ q. option_map request_view q ≡ load_of (view value.now)) }
+fn read_load(alloc: Global, value: &Value) -> Result<Edit, Unread>
+    ensures { Reads edit_view result (load_of (view value.now)) }
 {
-    let (Some(width), Some(height)) = (number_of(value, "width"), number_of(value, "height")) else {
-        return Ok(None);
-    };
-    let Some(doc) = read_doc(alloc, value)? else {
-        return Ok(None);
-    };
-    let Some(sheets) = read_sheets(alloc, value)? else {
-        return Ok(None);
-    };
+    let width = number_at(value, "width")?;
+    let height = number_at(value, "height")?;
+    let doc = doc_at(alloc, value, "doc")?;
+    let sheets = texts_at(alloc, value, "sheets")?;
     let members = if sheets.is_some() { 5 } else { 4 };
     if count_members(value) != members {
-        return Ok(None);
+        return Err(Unread::BadRequest);
     }
-    Ok(Some(Request::Edit(Edit::Load(Load {
+    Ok(Edit::Load {
         width,
         height,
         doc,
         sheets,
-    }))))
+    })
 }
 
 #[tactic(auto, unfolding(request_model::specs::Requests::insert_of))]
-fn read_insert(alloc: Global, value: &Value) -> Result<Option<Request>, NoMemory>
-    ensures { IfOk result (λ q. option_map request_view q ≡ insert_of (view value.now)) }
+fn read_insert(alloc: Global, value: &Value) -> Result<Edit, Unread>
+    ensures { Reads edit_view result (insert_of (view value.now)) }
 {
-    let (Some(parent), Some(index)) = (number_of(value, "parent"), number_of(value, "index")) else {
-        return Ok(None);
-    };
-    let Some(tree) = read_member(alloc, value, "tree")? else {
-        return Ok(None);
-    };
+    let parent = number_at(value, "parent")?;
+    let index = number_at(value, "index")?;
+    let tree = tree_at(alloc, value, "tree")?;
     if count_members(value) != 4 {
-        return Ok(None);
+        return Err(Unread::BadRequest);
     }
-    Ok(Some(Request::Edit(Edit::Insert(Insert {
+    Ok(Edit::Insert {
         parent,
         index,
         tree,
-    }))))
+    })
 }
 
 #[tactic(auto, unfolding(request_model::specs::Requests::remove_of))]
-fn read_remove(value: &Value) -> Option<Request>
-    ensures { option_map request_view result ≡ remove_of (view value.now) }
+fn read_remove(value: &Value) -> Result<Edit, Unread>
+    ensures { Reads edit_view result (remove_of (view value.now)) }
 {
-    let id = number_of(value, "id")?;
-    if count_members(value) == 2 {
-        Some(Request::Edit(Edit::Remove(id)))
-    } else {
-        None
+    let id = number_at(value, "id")?;
+    if count_members(value) != 2 {
+        return Err(Unread::BadRequest);
     }
+    Ok(Edit::Remove { id })
 }
 
-/// The tree that a member is, or nothing where it is none.
-fn read_member(alloc: Global, value: &Value, key: &str) -> Result<Option<Tree>, NoMemory>
-    ensures { IfOk result (λ tree. option_map shape tree ≡ tree_at key.now (view value.now)) }
+#[tactic(auto, unfolding(request_model::specs::Requests::dump_of))]
+fn read_dump(value: &Value) -> Result<Query, Unread>
+    ensures { Reads (λ q. q) result (dump_of (view value.now)) }
 {
-    let Some(member) = value.get(key) else {
-        return Ok(None);
-    };
-    match read_tree(alloc, member) {
-        Ok(tree) => Ok(Some(tree)),
-        Err(TreeFault::Shape) => Ok(None),
-        Err(TreeFault::NoMemory) => Err(NoMemory),
+    if count_members(value) != 1 {
+        return Err(Unread::BadRequest);
     }
-}
-
-/// The document of a load, or nothing where its member is no element.
-fn read_doc(alloc: Global, value: &Value) -> Result<Option<Tree>, NoMemory>
-    ensures { IfOk result (λ doc. option_map shape doc ≡ doc_at (codes "doc") (view value.now)) }
-{
-    match read_member(alloc, value, "doc")? {
-        Some(Tree::Chars(_)) => Ok(None),
-        doc => Ok(doc),
-    }
-}
-
-/// The style sheets of a load: none where the member is missing, and nothing where it is no list of texts.
-fn read_sheets(alloc: Global, value: &Value) -> Result<Option<Option<Seq<Text>>>, NoMemory>
-    ensures { IfOk result (λ sheets. sheets ≡ texts_at (codes "sheets") (view value.now)) }
-{
-    match value.get("sheets") {
-        Some(member) => match texts_in(alloc, member)? {
-            Some(texts) => Ok(Some(Some(texts))),
-            None => Ok(None),
-        },
-        None => Ok(Some(None)),
-    }
+    Ok(Query::Dump)
 }

@@ -4,11 +4,10 @@
 mod grammar;
 mod line;
 mod members;
-mod refusal;
 mod request;
 #[cfg(test)]
 mod tests;
+mod unread;
 
 pub use line::ask;
-pub use refusal::Refusal;
-pub use request::{Asked, Edit, Insert, Load, Request};
+pub use request::{Asked, Edit, Request};

@@ -1,13 +1,18 @@
-ghost use Rattle.std.specs.Prelude.{◌≡◌, ℕ, List, codes, Some, None, IfOk, option_map, is_some};
-ghost use Rattle.std.specs.Str.{chars};
+//! The members of an object (RFC 8259 section 4).
+ghost use Rattle.std.specs.Prelude.{◌≡◌, option_map};
 ghost use Rattle.serde_json.specs.View.{view, items_view};
-ghost use Rattle.request_model.specs.Requests.{members, number_at, string_at, texts_of, texts_of_items};
+ghost use Rattle.dom_arena.specs.Shape.{shape};
+ghost use Rattle.request_model.specs.Requests.{members, number_at, string_at, tree_at, doc_at, texts_at, texts_of, texts_of_items};
+ghost use Rattle.relayout_requests.specs.Reads.{Reads};
 
-use port_core::{NoMemory, Seq, Text};
+use crate::unread::Unread;
+use dom_arena::Tree;
+use jsonml_reader::read_tree;
+use port_core::{Seq, Text};
 use serde_json::Value;
 use std::alloc::Global;
 
-/// How many members an object has, and 0 for a value that is none.
+/// Returns the number of members of an object, and 0 for any other value.
 pub fn count_members(value: &Value) -> usize
     ensures { result ≡ members (view value.now) }
 {
@@ -17,39 +22,72 @@ pub fn count_members(value: &Value) -> usize
     }
 }
 
-/// A member that is a whole number written in digits alone.
-pub fn number_of(value: &Value, key: &str) -> Option<u64>
-    ensures { result ≡ number_at key.now (view value.now) }
-{
-    value.get(key).and_then(Value::as_u64)
-}
-
-/// A member that is a string.
-pub fn string_of<'v>(value: &'v Value, key: &str) -> Option<&'v str>
+/// Returns the member `key`, if it is a string.
+pub fn string_at<'v>(value: &'v Value, key: &str) -> Option<&'v str>
     ensures { option_map (λ s. s.now) result ≡ string_at key.now (view value.now) }
 {
     value.get(key).and_then(Value::as_str)
 }
 
-/// The texts of an array of strings, or nothing where the value is none.
-pub fn texts_in(alloc: Global, value: &Value) -> Result<Option<Seq<Text>>, NoMemory>
-    ensures { IfOk result (λ texts. texts ≡ texts_of (view value.now)) }
+/// Reads the member `key` as an integer in digits alone.
+pub fn number_at(value: &Value, key: &str) -> Result<u64, Unread>
+    ensures { Reads (λ n. n) result (number_at key.now (view value.now)) }
 {
-    match value.as_array() {
-        Some(items) => read_texts(alloc, items),
+    match value.get(key).and_then(Value::as_u64) {
+        Some(number) => Ok(number),
+        None => Err(Unread::BadRequest),
+    }
+}
+
+/// Reads the member `key` as a tree in JsonML.
+pub fn tree_at(alloc: Global, value: &Value, key: &str) -> Result<Tree, Unread>
+    ensures { Reads shape result (tree_at key.now (view value.now)) }
+{
+    match value.get(key) {
+        Some(member) => Ok(read_tree(alloc, member)?),
+        None => Err(Unread::BadRequest),
+    }
+}
+
+/// Reads the member `key` as an element in JsonML.
+pub fn doc_at(alloc: Global, value: &Value, key: &str) -> Result<Tree, Unread>
+    ensures { Reads shape result (doc_at key.now (view value.now)) }
+{
+    match tree_at(alloc, value, key)? {
+        Tree::Chars(_) => Err(Unread::BadRequest),
+        doc => Ok(doc),
+    }
+}
+
+/// Reads the member `key` as an array of strings, or `None` where it is missing.
+pub fn texts_at(alloc: Global, value: &Value, key: &str) -> Result<Option<Seq<Text>>, Unread>
+    ensures { Reads (λ texts. texts) result (texts_at key.now (view value.now)) }
+{
+    match value.get(key) {
+        Some(member) => Ok(Some(texts_of(alloc, member)?)),
         None => Ok(None),
     }
 }
 
-fn read_texts(alloc: Global, items: &[Value]) -> Result<Option<Seq<Text>>, NoMemory>
-    ensures { IfOk result (λ texts. texts ≡ texts_of_items (items_view items.now)) }
+/// Reads a value as an array of strings.
+fn texts_of(alloc: Global, value: &Value) -> Result<Seq<Text>, Unread>
+    ensures { Reads (λ texts. texts) result (texts_of (view value.now)) }
+{
+    match value.as_array() {
+        Some(items) => texts_of_items(alloc, items),
+        None => Err(Unread::BadRequest),
+    }
+}
+
+fn texts_of_items(alloc: Global, items: &[Value]) -> Result<Seq<Text>, Unread>
+    ensures { Reads (λ texts. texts) result (texts_of_items (items_view items.now)) }
 {
     let mut texts = Seq::new(alloc);
     for item in items {
         match item.as_str() {
             Some(text) => texts.push(Text::new(alloc, text)?)?,
-            None => return Ok(None),
+            None => return Err(Unread::BadRequest),
         }
     }
-    Ok(Some(texts))
+    Ok(texts)
 }

@@ -1,38 +1,46 @@
-use crate::refusal::Refusal;
+//! Requests as they are read from a line.
 use dom_arena::Tree;
+use page_model::Cause;
 use port_core::{Seq, Text};
-
-/// A load: the viewport's sides in pixels, the document, and the style sheets if any were given.
-#[derive(Debug, Drop)]
-pub struct Load {
-    pub width: u64,
-    pub height: u64,
-    pub doc: Tree,
-    pub sheets: Option<Seq<Text>>,
-}
-
-/// An insert: the number of the parent, how many of its children stand before the new one, and the new tree.
-#[derive(Debug, Drop)]
-pub struct Insert {
-    pub parent: u64,
-    pub index: u64,
-    pub tree: Tree,
-}
+use request_model::Query;
 
 /// A request that may change what is loaded.
 #[derive(Debug, Drop)]
 pub enum Edit {
-    Load(Load),
-    Insert(Insert),
-    /// A remove: the number of the node that goes, with all below it.
-    Remove(u64),
+    /// Replaces all that is loaded.
+    Load {
+        /// The viewport's width, in pixels.
+        width: u64,
+        /// The viewport's height, in pixels.
+        height: u64,
+        /// The document, an element.
+        doc: Tree,
+        /// The texts of the style sheets, if the request has any.
+        sheets: Option<Seq<Text>>,
+    },
+    /// Inserts a tree among the children of an element.
+    Insert {
+        /// The id of the element.
+        parent: u64,
+        /// The number of its children that stand before the tree.
+        index: u64,
+        /// The tree.
+        tree: Tree,
+    },
+    /// Removes a node with all below it.
+    Remove {
+        /// The id of the node.
+        id: u64,
+    },
 }
 
 /// A request in the grammar.
 #[derive(Debug, Drop)]
 pub enum Request {
+    /// A request that may change what is loaded.
     Edit(Edit),
-    Dump,
+    /// A request that changes nothing.
+    Query(Query),
 }
 
 /// What a line asks for.
@@ -40,8 +48,8 @@ pub enum Request {
 pub enum Asked {
     /// Nothing: the line is blank.
     Nothing,
-    /// No request: it is refused whatever the state is.
-    Broken(Refusal),
+    /// The line is not a request, and is refused whatever is loaded.
+    Broken(Cause),
     /// A request.
     Request(Request),
 }

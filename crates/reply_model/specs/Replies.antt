@@ -1,9 +1,14 @@
 -- The reply to a line, and the replies to a script.
-use Rattle.std.specs.Prelude.{◌≡◌, ℕ, List, [], ◌∷◌, ◌++◌, Bool, true, false, Option, Some, None}
+use Rattle.std.specs.Prelude.{◌≡◌, ℕ, zero, suc, List, [], ◌∷◌, ◌++◌, Bool, true, false, Option, Some, None}
 use Rattle.stream_model.specs.Ledger.{Log}
-use Rattle.page_model.specs.Pages.{State}
-use Rattle.request_model.specs.Requests.{Request, edit, dump, asked}
-use Rattle.request_model.specs.States.{Answer, silent, refused, accepted, answer, new_numbers, next, asks_edit}
+use Rattle.page_model.specs.Pages.{Page, State}
+use Rattle.page_model.specs.Refusals.{Causes, first_of}
+use Rattle.page_model.specs.declared.cause.Cause.{Cause}
+use Rattle.request_model.specs.declared.query.Query.{Query}
+use Rattle.request_model.specs.declared.query.Query.TheVariants.{Dump}
+use Rattle.request_model.specs.declared.accepted.Accepted.{Accepted}
+use Rattle.request_model.specs.Requests.{Edit, Request, edit, query, Asked, asked_of_line}
+use Rattle.request_model.specs.States.{Answer, silent, refused, accepted, answer_to, accepted_by, brings_tree, state_after_edit, logs_of, logs_of_refused}
 use Rattle.layout_model.specs.Setting.{Setting}
 use Rattle.layout_model.specs.Consistent.{Assignment, Consistent}
 use Rattle.reply_model.specs.Spelling.{ok_line, ok_nodes_line, error_line}
@@ -18,50 +23,82 @@ pub record Course : Type 0 where
 abbrev pub start : Course
 start = record { state = None; last = [] }
 
+-- ---- logs
+
+-- what a request that is carried out may log, under the assignment that it reads, if it reads one: nothing is counted yet
+abbrev pub IsLogOf : Setting → Course → Request → Option Assignment → Log → Type 0
+IsLogOf setting from q a log = log ≡ []
+
+-- n logs with this property
+abbrev pub AreLogs : ℕ → (Log → Type 0) → List Log → Type 0
+AreLogs zero P own = own ≡ []
+AreLogs (suc n) P own = (log : Log) × P log × ((others : List Log) × AreLogs n P others × (own ≡ log ∷ others))
+
+-- the logs of a request that is carried out
+abbrev pub AreLogsOf : Setting → Course → Request → Option Assignment → List Log → Type 0
+AreLogsOf setting from q a own = AreLogs (logs_of q) (IsLogOf setting from q a) own
+
+-- the logs of what is refused: nothing is logged
+abbrev pub AreRefusedLogs : Asked → List Log → Type 0
+AreRefusedLogs asked own = AreLogs (logs_of_refused asked) (λ log. log ≡ []) own
+
+-- the newest of these logs, or the last one before them
+abbrev pub newest : List Log → Log → Log
+newest [] last = last
+newest (log ∷ logs) last = newest logs log
+
+-- ---- queries
+
+-- why a dump is refused for what its assignment says: no form of an assignment is refused today
+abbrev pub dump_causes : Page → Assignment → Causes
+dump_causes page a = []
+
+-- this text, unless there is a cause to refuse it
+abbrev pub text_unless : Option Cause → List ℕ → List ℕ
+text_unless None text = text
+text_unless (Some c) text = error_line c
+
+-- the reply to a query of a page, and what it logs; a dump is by the one consistent assignment
+abbrev pub IsReplyOn : Page → Setting → Course → Query → List Log → List ℕ → Type 0
+IsReplyOn page setting from Dump own reply =
+    (a : Assignment) × Consistent setting page a × AreLogsOf setting from (query Dump) (Some a) own
+    × (reply ≡ text_unless (first_of (dump_causes page a)) (dump_text page.document.root a ++ ok_line))
+
+-- the reply to a query of what is loaded
+abbrev pub IsQueryReply : State → Setting → Course → Query → List Log → List ℕ → Type 0
+IsQueryReply None setting from q own reply = ⊥
+IsQueryReply (Some page) setting from q own reply = IsReplyOn page setting from q own reply
+
+-- ---- edits
+
+-- the line of an edit: the first new id and the number of new nodes, if it brought a tree
+abbrev pub edit_text : Bool → Accepted → List ℕ
+edit_text true new = ok_nodes_line new.first new.count
+edit_text false new = ok_line
+
+-- the reply to an edit that leads from one place to another
+abbrev pub IsEditText : Setting → Course → Edit → Course → List ℕ → Type 0
+IsEditText setting from e to reply = reply ≡ edit_text (brings_tree e) (accepted_by from.state e)
+
+-- an edit that is carried out: what it logs, its reply, and where it leads
+pub record IsEditReply (setting : Setting) (from : Course) (e : Edit) (own : List Log) (reply : List ℕ) (to : Course) : Type 0 where
+  pub logs : AreLogsOf setting from (edit e) None own
+  pub text : IsEditText setting from e to reply
+  pub state : to.state ≡ state_after_edit from.state e
+  pub last : to.last ≡ newest own from.last
+
 -- ---- one line
 
--- this is the dump of what is loaded, by the one consistent assignment
-abbrev pub IsDump : Setting → State → List ℕ → Type 0
-IsDump setting None reply = ⊥
-IsDump setting (Some page) reply = (a : Assignment) × Consistent setting page a × (reply ≡ dump_text page.document.root a ++ ok_line)
+-- what a line asks for was answered so: what is logged, the reply, and where it leads
+abbrev pub IsAnswered : Answer → Setting → Course → Asked → List Log → List ℕ → Course → Type 0
+IsAnswered silent setting from asked own reply to = (own ≡ []) × (reply ≡ []) × (to ≡ from)
+IsAnswered (refused c) setting from asked own reply to = AreRefusedLogs asked own × (reply ≡ error_line c) × (to ≡ from)
+IsAnswered (accepted (edit e)) setting from asked own reply to = IsEditReply setting from e own reply to
+IsAnswered (accepted (query q)) setting from asked own reply to = IsQueryReply from.state setting from q own reply × (to ≡ from)
 
--- the reply to an edit: the first new number and how many nodes are new, if it brought a tree
-abbrev pub edit_line : Option (ℕ × ℕ) → List ℕ
-edit_line None = ok_line
-edit_line (Some new) = ok_nodes_line new.0 new.1
-
--- this is the reply to a request that is carried out
-abbrev pub IsOkReply : Setting → Course → Request → List ℕ → Type 0
-IsOkReply setting at (edit e) reply = reply ≡ edit_line (new_numbers at.state e)
-IsOkReply setting at dump reply = IsDump setting at.state reply
-
--- this is how an answer is spelled
-abbrev pub Spells : Setting → Course → Answer → List ℕ → Type 0
-Spells setting at silent reply = reply ≡ []
-Spells setting at (refused r) reply = reply ≡ error_line r
-Spells setting at (accepted q) reply = IsOkReply setting at q reply
-
--- this is the reply to a line
-unfoldable pub IsReply : Setting → Course → List ℕ → List ℕ → Type 0
-IsReply setting at line reply = Spells setting at (answer at.state line) reply
-
--- these are the logs of a line: one where it asks for an edit, else none. Nothing is counted yet, so it is empty
-abbrev pub AreLogsOf : Bool → List Log → Type 0
-AreLogsOf true own = own ≡ [] ∷ []
-AreLogsOf false own = own ≡ []
-
--- what the last accepted edit logged, after an answer with these logs
-abbrev pub latest : Answer → List Log → Log → Log
-latest silent own last = last
-latest (refused r) own last = last
-latest (accepted dump) own last = last
-latest (accepted (edit e)) [] last = last
-latest (accepted (edit e)) (log ∷ own) last = log
-
--- a line with these logs leads from one place to the next
-unfoldable pub Moves : Setting → Course → List ℕ → List Log → Course → Type 0
-Moves setting from line own to =
-    AreLogsOf (asks_edit (asked line)) own × (to ≡ record { state = next from.state line; last = latest (answer from.state line) own from.last })
+-- one turn of a script: from one place to the next, by what a line asks for
+unfoldable pub IsTurn : Setting → Course → Asked → List Log → List ℕ → Course → Type 0
+IsTurn setting from asked own reply to = IsAnswered (answer_to from.state asked) setting from asked own reply to
 
 -- ---- a script
 
@@ -74,10 +111,9 @@ pub record Step (setting : Setting) (from : Course) (line : List ℕ) (logs : Li
   pub to : Course
   pub logs_are : logs ≡ own ++ later
   pub text_is : text ≡ reply ++ others
-  pub moved : Moves setting from line own to
-  pub replied : IsReply setting from line reply
+  pub turn : IsTurn setting from (asked_of_line line) own reply to
 
--- these are the replies to the lines, one after another, where edits log these
+-- these are the replies to the lines, one after another, where they log these
 unfoldable pub AreReplies : Setting → Course → List (List ℕ) → List Log → List ℕ → Type 0
 AreReplies setting from [] logs text = (logs ≡ []) × (text ≡ [])
 AreReplies setting from (line ∷ lines) logs text =

@@ -1,7 +1,8 @@
 -- How the parts of a reply are spelled.
 use Rattle.std.specs.Prelude.{ℕ, List, [], ◌∷◌, ◌++◌, codes}
 use Rattle.std.specs.Fmt.{decimal}
-use Rattle.page_model.specs.Refusals.{Refusal, refusal_number, refusal_name}
+use Rattle.page_model.specs.Refusals.{cause_number, cause_name}
+use Rattle.page_model.specs.declared.cause.Cause.{Cause}
 
 -- a reply's line ends with a newline
 abbrev pub end_line : List ℕ
@@ -15,10 +16,10 @@ field text = 32 ∷ text
 unfoldable pub ok_line : List ℕ
 ok_line = codes "ok" ++ end_line
 
--- the same, with the first new number and how many nodes are new
+-- the same, with the first new id and the number of new nodes
 unfoldable pub ok_nodes_line : ℕ → ℕ → List ℕ
 ok_nodes_line first count = codes "ok" ++ (field (decimal first) ++ (field (decimal count) ++ end_line))
 
--- the line of a refusal
-unfoldable pub error_line : Refusal → List ℕ
-error_line r = codes "error" ++ (field (decimal (refusal_number r)) ++ (field (refusal_name r) ++ end_line))
+-- the line of a refusal with this cause
+unfoldable pub error_line : Cause → List ℕ
+error_line c = codes "error" ++ (field (decimal (cause_number c)) ++ (field (cause_name c) ++ end_line))

@@ -1,3 +1,7 @@
 //! What the program answers: the text of a dump, the reply to a line, the replies to a script.
-//! Definitions alone, in `specs/`.
+//! Definitions are in `specs/`.
 #![tactic(auto)]
+
+mod examples;
+
+pub use examples::{examples_of_dumps, examples_of_lines, examples_of_scripts, examples_of_turns};

@@ -1,13 +1,18 @@
 -- Which requests are refused, and the state that a line leaves.
-use Rattle.std.specs.Prelude.{ℕ, ◌&&◌, ◌||◌, List, [], ◌∷◌, Bool, true, false, not, nat_lt, Option, Some, None, is_some, option_map, unwrap_or, codes}
+use Rattle.std.specs.Prelude.{ℕ, ◌&&◌, ◌||◌, List, [], ◌∷◌, ◌++◌, Bool, true, false, not, nat_lt, max, Option, Some, None, is_some, option_map, unwrap_or, codes}
 use Rattle.std.specs.Str.{bytes_eq}
 use Rattle.page_model.specs.Trees.{Tree, elem, characters, Trees, no_trees, tree, size}
 use Rattle.page_model.specs.Document.{Document, document}
-use Rattle.page_model.specs.Limits.{max_side}
-use Rattle.page_model.specs.Refusals.{Refusal, not_loaded, viewport_range, not_built, Causes, first_of}
+use Rattle.page_model.specs.Refusals.{Causes, first_of}
 use Rattle.page_model.specs.Edits.{load_refusals, insert_refusals, remove_refusals, after_insert, after_remove}
 use Rattle.page_model.specs.Pages.{Page, State}
-use Rattle.request_model.specs.Requests.{Edit, load, insert, remove, Request, edit, dump, Asked, nothing, broken, request, asked}
+use Rattle.page_model.specs.declared.limits.TheConstants.{MAX_SIDE}
+use Rattle.page_model.specs.declared.cause.Cause.{Cause}
+use Rattle.page_model.specs.declared.cause.Cause.TheVariants.{NotLoaded, ViewportRange, NotBuilt}
+use Rattle.request_model.specs.declared.query.Query.{Query}
+use Rattle.request_model.specs.declared.query.Query.TheVariants.{Dump}
+use Rattle.request_model.specs.declared.accepted.Accepted.{Accepted}
+use Rattle.request_model.specs.Requests.{Edit, load, insert, remove, Request, edit, query, Asked, nothing, broken, request}
 
 -- ---- refusals
 
@@ -25,26 +30,36 @@ abbrev mutual
   are_plain no_trees = true
   are_plain (tree t ts) = is_plain t && are_plain ts
 
+-- the forms of a request in the grammar that are not built yet; they are refused before what is loaded is looked at
+abbrev pub form_causes : Request → Causes
+form_causes (edit (load width height doc sheets)) = (is_some sheets, NotBuilt) ∷ (not (is_plain doc), NotBuilt) ∷ []
+form_causes (edit (insert parent index new)) = (not (is_plain new), NotBuilt) ∷ []
+form_causes (edit (remove id)) = []
+form_causes (query q) = []
+
 -- the causes to refuse what needs a page
 abbrev pub needs_page : State → (Page → Causes) → Causes
-needs_page None causes = (true, not_loaded) ∷ []
+needs_page None causes = (true, NotLoaded) ∷ []
 needs_page (Some page) causes = causes page
 
--- why a request is refused, in the order in which this is asked
-abbrev pub refusals : State → Request → Causes
-refusals s (edit (load width height doc sheets)) =
-    (is_some sheets, not_built)
-    ∷ (not (is_plain doc), not_built)
-    ∷ (nat_lt max_side width || nat_lt max_side height, viewport_range)
-    ∷ load_refusals doc
-refusals s (edit (insert parent index new)) =
-    (not (is_plain new), not_built) ∷ needs_page s (λ page. insert_refusals parent index new page.document)
-refusals s (edit (remove id)) = needs_page s (λ page. remove_refusals id page.document)
-refusals s dump = needs_page s (λ _. [])
+-- why an edit is refused, in the order in which this is asked
+abbrev pub edit_causes : State → Edit → Causes
+edit_causes s (load width height doc sheets) =
+    (nat_lt MAX_SIDE width || nat_lt MAX_SIDE height, ViewportRange) ∷ load_refusals doc
+edit_causes s (insert parent index new) = needs_page s (λ page. insert_refusals parent index new page.document)
+edit_causes s (remove id) = needs_page s (λ page. remove_refusals id page.document)
+
+-- why a query is refused, whatever its assignment is
+abbrev pub query_causes : State → Query → Causes
+query_causes s Dump = needs_page s (λ _. [])
+
+abbrev pub request_causes : State → Request → Causes
+request_causes s (edit e) = edit_causes s e
+request_causes s (query q) = query_causes s q
 
 -- why a request is refused, if it is
-unfoldable pub refusal_of : State → Request → Option Refusal
-refusal_of s q = first_of (refusals s q)
+unfoldable pub refusal_of : State → Request → Option Cause
+refusal_of s q = first_of (form_causes q ++ request_causes s q)
 
 -- ---- edits
 
@@ -53,57 +68,63 @@ abbrev pub with_document : (Document → Document) → Page → Page
 with_document change page = record { document = change page.document; sheets = page.sheets; viewport = page.viewport }
 
 -- what is loaded after an edit that is not refused
-abbrev pub edited : State → Edit → State
-edited s (load width height doc sheets) =
+abbrev pub state_after_edit : State → Edit → State
+state_after_edit s (load width height doc sheets) =
     Some (record { document = document doc; sheets = unwrap_or sheets []; viewport = record { width = width; height = height } })
-edited s (insert parent index new) = option_map (with_document (after_insert parent index new)) s
-edited s (remove id) = option_map (with_document (after_remove id)) s
+state_after_edit s (insert parent index new) = option_map (with_document (after_insert parent index new)) s
+state_after_edit s (remove id) = option_map (with_document (after_remove id)) s
 
--- the number that the next new node gets
+-- the id that the next new node gets
 abbrev pub next_id : State → ℕ
 next_id None = 0
 next_id (Some page) = page.document.next_id
 
--- the first new number and how many nodes are new, where an edit brings a tree
-abbrev pub new_numbers : State → Edit → Option (ℕ × ℕ)
-new_numbers s (load width height doc sheets) = Some (0, size doc)
-new_numbers s (insert parent index new) = Some (next_id s, size new)
-new_numbers s (remove id) = None
+-- an edit brings a tree, whose nodes get ids
+abbrev pub brings_tree : Edit → Bool
+brings_tree (load width height doc sheets) = true
+brings_tree (insert parent index new) = true
+brings_tree (remove id) = false
+
+-- the first new id and the number of new nodes of an edit that is not refused
+abbrev pub accepted_by : State → Edit → Accepted
+accepted_by s (load width height doc sheets) = record { first = 0; count = size doc }
+accepted_by s (insert parent index new) = record { first = next_id s; count = size new }
+accepted_by s (remove id) = record { first = 0; count = 0 }
 
 -- ---- lines
 
 -- how a line is answered
 pub data Answer : Type 0 where
   silent : Answer
-  refused : Refusal → Answer
+  refused : Cause → Answer
   accepted : Request → Answer
 
-abbrev pub settled : Request → Option Refusal → Answer
-settled q None = accepted q
-settled q (Some r) = refused r
+abbrev pub answer_by : Request → Option Cause → Answer
+answer_by q None = accepted q
+answer_by q (Some c) = refused c
 
-abbrev pub judged : State → Asked → Answer
-judged s nothing = silent
-judged s (broken r) = refused r
-judged s (request q) = settled q (refusal_of s q)
+-- the answer to what a line asks for
+abbrev pub answer_to : State → Asked → Answer
+answer_to s nothing = silent
+answer_to s (broken c) = refused c
+answer_to s (request q) = answer_by q (refusal_of s q)
 
-unfoldable pub answer : State → List ℕ → Answer
-answer s line = judged s (asked line)
+-- ---- logs
 
--- a line that is passed over, a refused one and a request that is no edit leave the state as it was
-abbrev pub left_by : State → Answer → State
-left_by s silent = s
-left_by s (refused r) = s
-left_by s (accepted (edit e)) = edited s e
-left_by s (accepted dump) = s
+-- the number of logs that a request begins which is carried out
+abbrev pub logs_of : Request → ℕ
+logs_of (edit e) = 1
+logs_of (query Dump) = 0
 
--- the state that a line leaves
-unfoldable pub next : State → List ℕ → State
-next s line = left_by s (answer s line)
+-- the number of logs that is begun by what is refused: an edit in the grammar begins one
+abbrev pub logs_of_refused : Asked → ℕ
+logs_of_refused nothing = 0
+logs_of_refused (broken c) = 0
+logs_of_refused (request (edit e)) = 1
+logs_of_refused (request (query Dump)) = 0
 
--- an edit in the grammar begins a new log, also where it is refused afterwards
-abbrev pub asks_edit : Asked → Bool
-asks_edit nothing = false
-asks_edit (broken r) = false
-asks_edit (request (edit e)) = true
-asks_edit (request dump) = false
+-- the most logs that are begun by what a line asks for
+abbrev pub most_logs : Asked → ℕ
+most_logs nothing = 0
+most_logs (broken c) = 0
+most_logs (request q) = max (logs_of q) (logs_of_refused (request q))

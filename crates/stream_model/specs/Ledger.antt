@@ -1,5 +1,5 @@
 -- The ledger of counted work: pairs of a kind and an element, and marks that part the requests.
-use Rattle.std.specs.Prelude.{◌≡◌, ◌⊎◌, ℕ, ◌+◌, List, [], ◌∷◌, ◌++◌, Bool, true, false, if◌then◌else◌}
+use Rattle.std.specs.Prelude.{ℕ, ◌+◌, List, [], ◌∷◌, ◌++◌, Bool, true, false, if◌then◌else◌}
 use Rattle.stream_model.specs.declared.kind.Kind.{Kind}
 use Rattle.stream_model.specs.declared.kind.Kind.TheVariants.{Match, Style, Measure, Size, Place}
 
@@ -20,16 +20,6 @@ pairs (p ∷ log) = pair p.0 p.1 ∷ pairs log
 abbrev pub events : List Log → List Event
 events [] = []
 events (log ∷ logs) = mark ∷ pairs log ++ events logs
-
--- x is an element of the list
-abbrev pub IsIn : Kind × ℕ → Log → Type 0
-IsIn p [] = ⊥
-IsIn p (q ∷ log) = (p ≡ q) ⊎ IsIn p log
-
--- no pair stands twice
-abbrev pub NoneTwice : Log → Type 0
-NoneTwice [] = Unit {0}
-NoneTwice (p ∷ log) = (IsIn p log → ⊥) × NoneTwice log
 
 abbrev pub is_same : Kind → Kind → Bool
 is_same Match Match = true

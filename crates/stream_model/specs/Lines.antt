@@ -1,14 +1,11 @@
 -- The lines of a stream of bytes.
 use Rattle.std.specs.Prelude.{◌≡◌, ℕ, ◌==◌, ◌||◌, List, [], ◌∷◌, length, Bool, false, if◌then◌else◌, nat_lt}
 use Rattle.std.specs.List.{list_all}
+use Rattle.stream_model.specs.declared.limits.TheConstants.{MAX_LINE}
 
 -- the byte that ends a line
 abbrev pub newline : ℕ
 newline = 10
-
--- how many bytes a line may have, its newline not counted
-abbrev pub max_line : ℕ
-max_line = 4194304
 
 -- b stands at the front of the first line
 abbrev pub onto : ℕ → List (List ℕ) → List (List ℕ)
@@ -45,4 +42,4 @@ is_blank line = list_all is_space line
 
 -- a line that is read past, whatever it holds
 abbrev pub is_too_long : List ℕ → Bool
-is_too_long line = nat_lt max_line (length line)
+is_too_long line = nat_lt MAX_LINE (length line)

@@ -1,5 +1,16 @@
--- What is known of a stream: the bytes of it where it tells them, how many were taken, and how often it failed.
+-- What is seen of a source and of a sink, and what happens to it.
 use Rattle.std.specs.Prelude.{◌≡◌, ℕ, ◌+◌, ◌-◌, ◌^◌, ◌≤◌, min, max, List, [], ◌++◌, length, take, Option, Some, None}
+
+-- what is seen of a source: the bytes left where it tells them, how many bytes were taken, and how often it failed
+pub record SourceState : Type 0 where
+  pub left : Option (List ℕ)
+  pub taken : ℕ
+  pub faults : ℕ
+
+-- what is seen of a sink: the bytes that it holds where it tells them, and how often it failed
+pub record SinkState : Type 0 where
+  pub held : Option (List ℕ)
+  pub faults : ℕ
 
 -- R holds of what a stream told before and tells now, if it tells; a stream that tells goes on telling
 abbrev pub FromTo : Option (List ℕ) → Option (List ℕ) → (List ℕ → List ℕ → Type 0) → Type 0
@@ -16,6 +27,10 @@ last_count = 2 ^ 64 - 1
 abbrev pub Rose : ℕ → ℕ → Type 0
 Rose before now = min (before + 1) last_count ≤ now
 
+-- a fault was counted: the count has not fallen, and rose or stands at its last value
+abbrev pub CountsFault : ℕ → ℕ → Type 0
+CountsFault before now = (before ≤ now) × Rose before now
+
 -- a count grew by n, as far as its last value
 abbrev pub Grew : ℕ → ℕ → ℕ → Type 0
 Grew before n now = now ≡ max before (min (before + n) last_count)
@@ -29,7 +44,7 @@ NothingLeft (Some bytes) = bytes ≡ []
 abbrev pub Takes : Option (List ℕ) → Option (List ℕ) → List ℕ → Type 0
 Takes left left' bytes = FromTo left left' (λ old new. old ≡ bytes ++ new)
 
--- so many bytes were taken from the front
+-- n bytes were taken from the front
 abbrev pub TakesCount : Option (List ℕ) → Option (List ℕ) → ℕ → Type 0
 TakesCount left left' n = FromTo left left' (λ old new. (bytes : List ℕ) × (old ≡ bytes ++ new) × (length bytes ≡ n))
 

@@ -1,3 +1,5 @@
+//! The kinds of counted work.
+
 /// A kind of counted work. Each is done at most once for an element in one request.
 #[derive(Clone, Copy, Debug, PartialEq, Eq)]
 pub enum Kind {
