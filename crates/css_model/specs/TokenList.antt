@@ -1,5 +1,5 @@
--- The token list of a text: the text is cut into comments and tokens, and each is as long as it can
--- be (CSS Syntax 3, sections 4.3.1 and 4.3.2).
+-- The token list of a text: the text is divided into comments and tokens, each as long as it can be
+-- (CSS Syntax 3, sections 4.3.1 and 4.3.2).
 use Rattle.std.specs.Prelude.{◌≡◌, ℕ, ◌+◌, ◌≤◌, ◌||◌, List, [], ◌∷◌, ◌++◌, length, codes, flat_map, Bool, false}
 use Rattle.css_model.specs.declared.token.Token.{Token}
 use Rattle.css_model.specs.declared.token.TokenType.{TokenType}
@@ -61,7 +61,7 @@ abbrev pub token_at : ℕ → TokenType → Text → Token
 token_at start token_type s =
     record { token_type = token_type; start = start; end = start + length s; spelling = s }
 
--- the tokens of these pieces, of which the first one starts at this place
+-- the tokens of these pieces, where the first piece starts at this place
 abbrev pub tokens_from : ℕ → List Piece → List Token
 tokens_from start [] = []
 tokens_from start (comment s ∷ pieces) = tokens_from (start + length s) pieces

@@ -3,11 +3,11 @@ use Rattle.std.specs.Prelude.{ℤ, neg_ℤ, ◌≤ℤ◌}
 use Rattle.std.specs.Int.{int_min, int_max}
 use Rattle.units64.specs.declared.constants.TheConstants.{MAX_UNITS, MAX_MILLIONTHS}
 
--- a length may be so many units
+-- a length may be this number of units
 abbrev pub FitsUnits : ℤ → Type 0
 FitsUnits n = (neg_ℤ MAX_UNITS ≤ℤ n) × (n ≤ℤ MAX_UNITS)
 
--- a number may be so many millionths
+-- a number may be this number of millionths
 abbrev pub FitsFixed6 : ℤ → Type 0
 FitsFixed6 n = (neg_ℤ MAX_MILLIONTHS ≤ℤ n) × (n ≤ℤ MAX_MILLIONTHS)
 

@@ -6,7 +6,7 @@ use Rattle.css_model.specs.Components.{Components}
 use Rattle.css_model.specs.inner.Nesting.{nesting}
 use Rattle.css_model.specs.inner.Pieces.{tokens}
 
--- so many millionths, written without a point and an exponent
+-- a number of these millionths, written without a point, an exponent and a sign
 abbrev pub integer : ℤ → NumberValue
 integer millionths = record { millionths = millionths; is_integer = true; is_signed = false }
 
@@ -14,7 +14,7 @@ integer millionths = record { millionths = millionths; is_integer = true; is_sig
 abbrev pub signed_integer : ℤ → NumberValue
 signed_integer millionths = record { millionths = millionths; is_integer = true; is_signed = true }
 
--- so many millionths, written with a point or an exponent
+-- a number of these millionths, written with a point or an exponent, and without a sign
 abbrev pub decimal : ℤ → NumberValue
 decimal millionths = record { millionths = millionths; is_integer = false; is_signed = false }
 
