@@ -11,5 +11,6 @@ pub fn exist()
 
 /// No list of tokens has two lists of component values.
 pub fn are_unique()
-    ensures { (tokens : List Token) (these those : Components) → IsComponents tokens these → IsComponents tokens those → these ≡ those }
+    ensures { (tokens : List Token) (these those : Components) →
+        IsComponents tokens these → IsComponents tokens those → these ≡ those }
 {}

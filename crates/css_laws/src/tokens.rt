@@ -12,5 +12,6 @@ pub fn exist()
 
 /// No text has two token lists.
 pub fn are_unique()
-    ensures { (text : Text) (these those : List Token) → IsTokenList text these → IsTokenList text those → these ≡ those }
+    ensures { (text : Text) (these those : List Token) →
+        IsTokenList text these → IsTokenList text those → these ≡ those }
 {}

@@ -34,7 +34,8 @@ numeral_text w = w.sign ++ (w.integer ++ (fraction_text w.fraction ++ exponent_t
 abbrev pub is_exponent : Text → Text → Text → Bool
 is_exponent [] sign digits = is_empty sign && is_empty digits
 is_exponent (c ∷ cs) sign digits =
-    is_e c && (is_empty cs && (is_at_most_one is_sign sign && (list_all is_digit digits && not (is_empty digits))))
+    is_e c && (is_empty cs
+    && (is_at_most_one is_sign sign && (list_all is_digit digits && not (is_empty digits))))
 
 -- perhaps a sign, digits before the point or after it or both, and perhaps an exponent
 pub record IsNumeral (w : Numeral) : Type 0 where
@@ -77,11 +78,13 @@ places_left w = if is_minus w.exponent_sign then decimal_after 0 w.exponent else
 -- the exact decimal value without its sign, in millionths, truncated to an integer number of them
 abbrev pub magnitude : Numeral → ℕ
 magnitude w =
-    (decimal_after 0 (w.integer ++ w.fraction) * 10 ^ (6 + places_right w)) / 10 ^ (length w.fraction + places_left w)
+    (decimal_after 0 (w.integer ++ w.fraction) * 10 ^ (6 + places_right w))
+    / 10 ^ (length w.fraction + places_left w)
 
 -- the value in millionths, clamped to what a number may be
 abbrev pub value_of : Numeral → ℤ
-value_of w = clamped_millionths (if is_minus w.sign then neg_ℤ (pos (magnitude w)) else pos (magnitude w))
+value_of w =
+    clamped_millionths (if is_minus w.sign then neg_ℤ (pos (magnitude w)) else pos (magnitude w))
 
 -- the number that is written so
 abbrev pub number_of : Numeral → Number

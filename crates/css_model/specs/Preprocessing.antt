@@ -10,7 +10,10 @@ carriage_return = 13
 
 -- a carriage return and a form feed become a newline, and U+0000 becomes U+FFFD
 abbrev pub replaced : ℕ → ℕ
-replaced c = if (c == carriage_return) || (c == form_feed) then newline else (if c == 0 then replacement else c)
+replaced c =
+    if (c == carriage_return) || (c == form_feed)
+    then newline
+    else (if c == 0 then replacement else c)
 
 -- each code point as it is replaced, without the carriage returns that are before a newline
 abbrev pub preprocessed : Text → Text

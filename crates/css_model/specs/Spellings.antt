@@ -146,7 +146,8 @@ pub record IsSingle (token_type : TokenType) (s : Text) : Type 0 where
 
 -- a token of another type begins with this code point wherever it stands
 abbrev pub begins_other : ℕ → Bool
-begins_other c = is_whitespace c || (is_quote c || (is_digit c || (is_ident_start c || is_some (single_of c))))
+begins_other c =
+    is_whitespace c || (is_quote c || (is_digit c || (is_ident_start c || is_some (single_of c))))
 
 -- any other code point; a backslash at the end of the text is an identifier
 pub record IsDelim (c : ℕ) (s rest : Text) : Type 0 where

@@ -52,7 +52,8 @@ IsLongest p rest =
 -- each of these is a piece, and the longest at its place
 abbrev pub ArePieces : List Piece → Type 0
 ArePieces [] = Unit {0}
-ArePieces (p ∷ pieces) = IsPiece p (pieces_text pieces) × IsLongest p (pieces_text pieces) × ArePieces pieces
+ArePieces (p ∷ pieces) =
+    IsPiece p (pieces_text pieces) × IsLongest p (pieces_text pieces) × ArePieces pieces
 
 -- ---- the list
 

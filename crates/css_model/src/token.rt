@@ -21,7 +21,8 @@ pub enum Bracket {
 pub struct Number {
     /// The value in millionths, truncated towards zero and clamped.
     pub millionths: Fixed6,
-    /// Whether it was written without a point and an exponent: its type flag is then "integer", and else "number".
+    /// Whether it was written without a point and an exponent: its type flag is then "integer", and
+    /// else "number".
     pub is_integer: bool,
     /// Whether it was written with a sign.
     pub is_signed: bool,

@@ -40,7 +40,8 @@ impl TokenType {
 }
 
 impl Token {
-    /// Returns the number of a number, percentage or dimension: it tells its type flag and whether it has a sign.
+    /// Returns the number of a number, percentage or dimension: it tells its type flag and whether
+    /// it has a sign.
     pub fn number(&self) -> Option<Number>
         ensures { result ≡ number_of_type self.now.token_type }
     {

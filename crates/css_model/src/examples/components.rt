@@ -37,7 +37,8 @@ pub fn nested()
     ensures crossed { nesting_of (codes "([)]")
         ≡ component (simple_block (token_at 0 (Opening Round) (codes "("))
         (component (simple_block (token_at 1 (Opening Square) (codes "["))
-        (component (preserved (token_at 2 (Closing Round) (codes ")"))) no_components) (Some (token_at 3 (Closing Square) (codes "]"))))
+        (component (preserved (token_at 2 (Closing Round) (codes ")"))) no_components)
+        (Some (token_at 3 (Closing Square) (codes "]"))))
         no_components) None) no_components }
     ensures a_url_is_not_a_function { nesting_of (codes "url(a)")
         ≡ component (preserved (token_at 0 (Url (codes "a")) (codes "url(a)"))) no_components }
