@@ -63,10 +63,8 @@ pub fn decode(alloc: Global, place: Place, cs: &[char]) -> Result<Decoded, NoMem
         write(&mut written, part.meaning(place))?;
         count += part.len();
     }
-    Ok(Decoded {
-        count,
-        meaning: written.into_text(),
-    })
+    let meaning = written.into_text(alloc)?;
+    Ok(Decoded { count, meaning })
 }
 
 fn write(written: &mut Written, meaning: Option<char>) -> Result<(), NoMemory>

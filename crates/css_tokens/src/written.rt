@@ -46,10 +46,10 @@ impl Written {
     }
 
     /// What is written.
-    pub fn into_text(self) -> Text
-        ensures { result ≡ self }
+    pub fn into_text(self, alloc: Global) -> Result<Text, NoMemory>
+        ensures { IfOk result (λ t. t ≡ self) }
     {
-        Text::from_string(self.text)
+        Text::new(alloc, self.text.as_str())
     }
 }
 
@@ -61,5 +61,5 @@ pub fn text_of(alloc: Global, cs: &[char]) -> Result<Text, NoMemory>
     for c in cs {
         written.push(*c)?;
     }
-    Ok(written.into_text())
+    written.into_text(alloc)
 }

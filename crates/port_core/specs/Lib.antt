@@ -6,3 +6,4 @@ pub mod Reader
 pub mod Draft
 pub mod Window
 pub mod Reads
+pub mod Text

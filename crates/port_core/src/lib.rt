@@ -6,6 +6,7 @@ mod draft;
 mod memory;
 mod ports;
 mod reader;
+mod short_text;
 mod standard;
 mod steps;
 #[cfg(test)]

@@ -172,7 +172,7 @@ fn counts_since_the_last_mark(rt: HostRuntime) {
 #[test]
 fn keeps_texts_and_lists(rt: HostRuntime) -> Result<(), Fail> {
     let text = Text::new(rt.alloc(), "größe")?;
-    let owned = Text::from_string(String::from_str(rt.alloc(), "größe")?);
+    let owned = text.copy(rt.alloc())?;
     assert_eq!(rt; text.as_str(), "größe");
     assert!(rt; text.same(&owned));
     assert!(rt; text.is("größe"));

@@ -31,4 +31,4 @@ returns-clause-count c =
 pub returns-clause-meaning : goal.returns-clause-meaning
 returns-clause-meaning c =
     let found : front_part c.args.place (drop c.loop-part.count c.args.cs.now) ≡ None = ap (front_part c.args.place) (sym c.behind.ensures) ∙ (sym c.front_part.ensures ∙ c.in_default.is) in
-    written-all _ _ _ _ c.into_text.ensures (meaning-end c.args.place c.args.cs.now c.loop-part.count found) c.loop-part.invariant.meaning
+    written-all _ _ _ _ c.in_ok-meaning.ensures (meaning-end c.args.place c.args.cs.now c.loop-part.count found) c.loop-part.invariant.meaning
