@@ -4,3 +4,4 @@ pub mod LineLemmas
 pub mod MemoryLemmas
 pub mod ReadLemmas
 pub mod StreamLemmas
+mod CharLemmas

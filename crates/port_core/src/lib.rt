@@ -22,4 +22,4 @@ pub use standard::{StdSink, StdSource};
 pub use std::alloc::AllocError as NoMemory;
 pub use steps::{NodeId, Steps};
 pub use stream_model::Kind;
-pub use text::Text;
+pub use text::{Text, push_char};

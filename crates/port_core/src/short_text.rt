@@ -1,5 +1,6 @@
 //! Text of few bytes, which lies in the value itself.
-ghost use Rattle.std.specs.Prelude.{◌≡◌, ◌≤◌, length, IsUtf8, take};
+ghost use Rattle.std.specs.Prelude.{◌≡◌, ◌≤◌, length, IfSome, IsUtf8, take};
+ghost use Rattle.std.specs.Str.{IsAscii};
 ghost use Rattle.port_core.specs.declared.short_text.TheConstants.{ROOM};
 
 use std::str;
@@ -29,6 +30,28 @@ impl ShortText {
             len: len as u8,
             bytes,
         }
+    }
+
+    /// The text of `cs`, if that is ASCII and short.
+    pub fn from_ascii(cs: &[char]) -> Option<ShortText>
+        ensures bytes { IfSome result (λ t. take t.len t.bytes ≡ cs.now) }
+        ensures ascii { IfSome result (λ t. IsAscii cs.now) }
+    {
+        if cs.len() > ROOM {
+            return None;
+        }
+        let mut bytes = [0; ROOM];
+        for i in 0..cs.len() {
+            let c = cs[i];
+            if c > '\u{7f}' {
+                return None;
+            }
+            bytes[i] = c as u8;
+        }
+        Some(ShortText {
+            len: cs.len() as u8,
+            bytes,
+        })
     }
 
     /// The text, borrowed.

@@ -1,5 +1,5 @@
 //! Owned text. A short one lies in the value itself; a longer one lies on the heap.
-ghost use Rattle.std.specs.Prelude.{◌≡◌, ◌↔◌, IsTrue, IfOk, encode_utf8_all};
+ghost use Rattle.std.specs.Prelude.{◌≡◌, ◌↔◌, [], ◌∷◌, ◌++◌, IsTrue, IfOk, OnOk, string_bytes, encode_utf8_all};
 ghost use Rattle.std.specs.Str.{chars};
 ghost use Rattle.port_core.specs.Text.{kept_bytes};
 
@@ -44,6 +44,18 @@ impl Text {
             there(alloc, s)?
         };
         Ok(Text { kept })
+    }
+
+    /// The text of these characters.
+    pub fn from_chars(alloc: Global, cs: &[char]) -> Result<Text, NoMemory>
+        ensures { IfOk result (λ t. t ≡ cs.now) }
+    {
+        match ShortText::from_ascii(cs) {
+            Some(short) => Ok(Text {
+                kept: Kept::Here(short),
+            }),
+            None => Text::new(alloc, written(alloc, cs)?.as_str()),
+        }
     }
 
     /// A copy of the text. One of a short text takes no memory.
@@ -102,6 +114,24 @@ fn there(alloc: Global, s: &str) -> Result<Kept, NoMemory>
         Ok(text) => Ok(Kept::There(text)),
         Err(_) => Err(NoMemory),
     }
+}
+
+/// These characters, in UTF-8.
+fn written(alloc: Global, cs: &[char]) -> Result<String, NoMemory>
+    ensures { IfOk result (λ s. chars (string_bytes s) ≡ cs.now) }
+{
+    let mut text = String::with_capacity(alloc, cs.len())?;
+    for c in cs {
+        push_char(&mut text, *c)?;
+    }
+    Ok(text)
+}
+
+/// Appends `c` to `text`.
+pub fn push_char(text: &mut String, c: char) -> Result<(), NoMemory>
+    ensures { OnOk result (chars (string_bytes text.new) ≡ chars (string_bytes text.old) ++ c ∷ []) }
+{
+    text.push(c)
 }
 
 /// Whether two texts have the same characters: in UTF-8 exactly those with the same bytes have.
