@@ -1,4 +1,4 @@
-use super::token::Token;
+use css_model::Token;
 use port_core::Seq;
 
 /// A token, or what stands between brackets, with them (CSS Syntax 3, sections 5.4.7 to 5.4.9).

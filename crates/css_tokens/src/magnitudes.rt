@@ -6,7 +6,7 @@ ghost use Rattle.std.specs.List.{list_all};
 ghost use Rattle.css_model.specs.Classes.{is_digit};
 ghost use Rattle.css_model.specs.Numerals.{decimal_after};
 
-use super::decimals::{decimal_within, with_zeros};
+use crate::decimals::{decimal_within, with_zeros};
 
 /// The greatest size, in millionths.
 const MAX_SIZE: u128 = 1_000_000_000_000_000;
@@ -18,21 +18,21 @@ const MAX_PLACES: u128 = 1 << 65;
 const MILLIONTHS: u128 = 6;
 
 /// What stands before the point, when it has moved to the right by so many places.
-fn moved_right(whole: &[char], fraction: &[char], places: u128) -> u128
-    ensures { result ≡ min (10 ^ 15) (decimal_after 0 (whole.now ++ take places fraction.now) * 10 ^ (places - length fraction.now)) }
+fn moved_right(integer: &[char], fraction: &[char], places: u128) -> u128
+    ensures { result ≡ min (10 ^ 15) (decimal_after 0 (integer.now ++ take places fraction.now) * 10 ^ (places - length fraction.now)) }
 {
     let kept = places.min(fraction.len() as u128);
-    let value = decimal_within(MAX_SIZE, 0, whole);
+    let value = decimal_within(MAX_SIZE, 0, integer);
     let value = decimal_within(MAX_SIZE, value, &fraction[..kept as usize]);
     with_zeros(MAX_SIZE, value, places - kept)
 }
 
 /// What stands before the point, when it has moved to the left by so many places.
-fn moved_left(whole: &[char], places: u128) -> u128
-    ensures { result ≡ min (10 ^ 15) (decimal_after 0 (take (length whole.now - places) whole.now)) }
+fn moved_left(integer: &[char], places: u128) -> u128
+    ensures { result ≡ min (10 ^ 15) (decimal_after 0 (take (length integer.now - places) integer.now)) }
 {
-    let cut = places.min(whole.len() as u128) as usize;
-    decimal_within(MAX_SIZE, 0, &whole[..whole.len() - cut])
+    let cut = places.min(integer.len() as u128) as usize;
+    decimal_within(MAX_SIZE, 0, &integer[..integer.len() - cut])
 }
 
 /// How many places an exponent means, up to more than any number has.
@@ -43,22 +43,22 @@ fn places_of(exponent: &[char]) -> u128
 }
 
 /// The size of a number whose exponent is not negative.
-pub fn enlarged(whole: &[char], fraction: &[char], exponent: &[char]) -> u128
+pub fn enlarged(integer: &[char], fraction: &[char], exponent: &[char]) -> u128
     requires fraction { list_all is_digit fraction.now ≡ true }
-    ensures { result ≡ min (10 ^ 15) ((decimal_after 0 (whole.now ++ fraction.now) * 10 ^ (6 + decimal_after 0 exponent.now)) / 10 ^ (length fraction.now + 0)) }
+    ensures { result ≡ min (10 ^ 15) ((decimal_after 0 (integer.now ++ fraction.now) * 10 ^ (6 + decimal_after 0 exponent.now)) / 10 ^ (length fraction.now + 0)) }
 {
-    moved_right(whole, fraction, MILLIONTHS + places_of(exponent))
+    moved_right(integer, fraction, MILLIONTHS + places_of(exponent))
 }
 
 /// The size of a number whose exponent is negative.
-pub fn reduced(whole: &[char], fraction: &[char], exponent: &[char]) -> u128
-    requires whole { list_all is_digit whole.now ≡ true }
+pub fn reduced(integer: &[char], fraction: &[char], exponent: &[char]) -> u128
+    requires integer { list_all is_digit integer.now ≡ true }
     requires fraction { list_all is_digit fraction.now ≡ true }
-    ensures { result ≡ min (10 ^ 15) ((decimal_after 0 (whole.now ++ fraction.now) * 10 ^ (6 + 0)) / 10 ^ (length fraction.now + decimal_after 0 exponent.now)) }
+    ensures { result ≡ min (10 ^ 15) ((decimal_after 0 (integer.now ++ fraction.now) * 10 ^ (6 + 0)) / 10 ^ (length fraction.now + decimal_after 0 exponent.now)) }
 {
     let places = places_of(exponent);
     if places < MILLIONTHS {
-        return moved_right(whole, fraction, MILLIONTHS - places);
+        return moved_right(integer, fraction, MILLIONTHS - places);
     }
-    moved_left(whole, places - MILLIONTHS)
+    moved_left(integer, places - MILLIONTHS)
 }

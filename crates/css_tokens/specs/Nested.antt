@@ -1,9 +1,8 @@
 -- The components of the definition that components are.
-use Rattle.std.specs.Prelude.{List, [], ◌∷◌, map, option_map}
+use Rattle.std.specs.Prelude.{List, [], ◌∷◌, map}
 use Rattle.css_model.specs.Components as model
 use Rattle.css_tokens.specs.declared.component.Component.{Component, fold-Component}
 use Rattle.css_tokens.specs.declared.component.Component.TheOpen.{Component-F}
-use Rattle.css_tokens.specs.Views.{token_view}
 
 -- components of the definition, as it lists them
 abbrev pub listed : List model.Component → model.Components
@@ -12,9 +11,9 @@ listed (c ∷ cs) = model.component c (listed cs)
 
 -- one level, with each component in it already seen as one of the definition
 abbrev pub nested_step : Component-F model.Component → model.Component
-nested_step (Component-F.One t) = model.one (token_view t)
-nested_step (Component-F.Block head contents close) = model.block (token_view head) (listed contents) (option_map token_view close)
-nested_step (Component-F.Function head contents close) = model.call (token_view head) (listed contents) (option_map token_view close)
+nested_step (Component-F.One t) = model.preserved t
+nested_step (Component-F.Block head contents close) = model.simple_block head (listed contents) close
+nested_step (Component-F.Function head contents close) = model.function_block head (listed contents) close
 
 abbrev pub component_view : Component → model.Component
 component_view = fold-Component model.Component nested_step

@@ -1,7 +1,6 @@
--- The test of each class of characters.
+-- The test of each class of code points.
 use Rattle.std.specs.Prelude.{ℕ, ◌==◌, Bool}
-use Rattle.css_model.specs.Classes.{hyphen, open_round, is_digit, is_hex_digit, is_whitespace, is_quote, is_sign}
-use Rattle.css_model.specs.Pieces.{is_close_round}
+use Rattle.css_model.specs.Classes.{hyphen, open_round, is_close_round, is_digit, is_hex_digit, is_whitespace, is_quote, is_sign}
 use Rattle.css_tokens.specs.declared.classes.Class.{Class}
 use Rattle.css_tokens.specs.declared.classes.Class.TheVariants.{Digit, HexDigit, Whitespace, Sign, Hyphen, Quote, OpenRound, CloseRound}
 
