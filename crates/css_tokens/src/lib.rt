@@ -1,4 +1,4 @@
-//! What is read of a text of CSS: its tokens, and their components.
+//! What is read of a text of CSS: its tokens, and their component values.
 #![tactic(auto)]
 
 mod classes;

@@ -1,4 +1,4 @@
-//! Components: tokens, nested by their brackets (CSS Syntax 3, sections 5.4.7 to 5.4.9).
+//! Component values: tokens, nested by their brackets (CSS Syntax 3, sections 5.4.7 to 5.4.9).
 ghost use Rattle.std.specs.Prelude.{◌≡◌, ◌<◌, ◌≤◌, List, [], ◌∷◌, ◌++◌, Some, true, false, option_map, length, IfOk, Err};
 ghost use Rattle.std.specs.Option.{is_some};
 ghost use Rattle.css_model.specs.Components as defined;
@@ -16,23 +16,23 @@ use port_core::{NoMemory, Seq};
 use std::alloc::Global;
 use std::mem;
 
-/// A bracket that is open: what stands before it in the bracket around it, and the token that opened it.
+/// A bracket that is open: what is before it in the bracket around it, and the token that opened it.
 #[derive(Drop)]
 struct OpenBracket {
     before: Components,
     head: Token,
 }
 
-/// Components that are being made.
+/// Component values that are being made.
 #[derive(Drop)]
 struct Nesting {
-    /// The brackets that are open, the innermost last.
+    /// The open brackets, the innermost last.
     open_brackets: Seq<OpenBracket>,
-    /// What the innermost one holds so far.
+    /// The contents of the innermost one so far.
     contents: Components,
 }
 
-/// The bracket that a token of this class opens.
+/// The bracket that a token of this type opens, if it opens one.
 fn opened_by(token_type: &TokenType) -> Option<Bracket>
     ensures { result ≡ defined.opened_by token_type.now }
 {
@@ -43,7 +43,7 @@ fn opened_by(token_type: &TokenType) -> Option<Bracket>
     }
 }
 
-/// A token of this class closes the innermost bracket around it.
+/// Whether a token of this type closes the bracket `around` it.
 fn closes(around: Option<Bracket>, token_type: &TokenType) -> bool
     ensures { result ≡ defined.closes around token_type.now }
 {
@@ -53,7 +53,7 @@ fn closes(around: Option<Bracket>, token_type: &TokenType) -> bool
     }
 }
 
-/// A bracket or function, with what it holds.
+/// The simple block or function of `head`, with its `contents` and the token that closes it.
 fn bracketed(head: Token, contents: Components, close: Option<Token>) -> Component
     ensures { component_view result ≡ computed.bracketed head (components_view contents) close }
 {
@@ -65,7 +65,7 @@ fn bracketed(head: Token, contents: Components, close: Option<Token>) -> Compone
 }
 
 impl Nesting {
-    /// The innermost bracket that is open.
+    /// The innermost open bracket, if one is open.
     fn innermost(&self) -> Option<Bracket>
         ensures { result ≡ innermost (heads_of self.now.open_brackets) }
     {
@@ -75,7 +75,7 @@ impl Nesting {
         }
     }
 
-    /// A component follows.
+    /// Appends a component value to the innermost open bracket.
     fn add(&mut self, component: Component) -> Result<(), NoMemory>
         ensures open_brackets { self.new.open_brackets ≡ self.old.open_brackets }
         ensures contents { IfOk result (λ _. components_view self.new.contents ≡ followed (components_view self.old.contents) (defined.component (component_view component) defined.no_components)) }
@@ -84,7 +84,7 @@ impl Nesting {
         Ok(())
     }
 
-    /// The innermost bracket ends.
+    /// Ends the innermost open bracket, which `close` closes.
     fn end(&mut self, close: Option<Token>) -> Result<(), NoMemory>
         requires open { 0 < length self.old.open_brackets }
         ensures { IfOk result (λ _. Ends self.old close self.new) }
@@ -99,7 +99,7 @@ impl Nesting {
         }
     }
 
-    /// A token follows that opens a bracket.
+    /// Takes a token that opens a bracket.
     fn take_opening(&mut self, alloc: Global, head: Token) -> Result<(), TokenFault>
         requires opens { is_some (defined.opened_by head.token_type) ≡ true }
         ensures { Taken result self.old head self.new }
@@ -112,7 +112,7 @@ impl Nesting {
         Ok(())
     }
 
-    /// A token follows that closes the innermost bracket.
+    /// Takes a token that closes the innermost open bracket.
     fn take_closing(&mut self, close: Token) -> Result<(), TokenFault>
         requires opens { is_some (defined.opened_by close.token_type) ≡ false }
         requires closes { defined.closes (innermost (heads_of self.old.open_brackets)) close.token_type ≡ true }
@@ -122,7 +122,7 @@ impl Nesting {
         Ok(())
     }
 
-    /// A token follows that is a component.
+    /// Takes a token that is preserved.
     fn take_alone(&mut self, token: Token) -> Result<(), TokenFault>
         requires opens { is_some (defined.opened_by token.token_type) ≡ false }
         requires closes { defined.closes (innermost (heads_of self.old.open_brackets)) token.token_type ≡ false }
@@ -132,7 +132,7 @@ impl Nesting {
         Ok(())
     }
 
-    /// A token follows.
+    /// Takes a token.
     fn take(&mut self, alloc: Global, token: &Token) -> Result<(), TokenFault>
         ensures { Taken result self.old token.now self.new }
     {
@@ -146,7 +146,7 @@ impl Nesting {
         }
     }
 
-    /// The tokens end.
+    /// Ends all open brackets, and returns the component values.
     fn finish(mut self) -> Result<Components, NoMemory>
         requires within { IsWithin self }
         ensures { IfOk result (λ cs. (components_view cs ≡ with_rest self []) × (depths (components_view cs) ≤ MAX_NESTING)) }
@@ -171,11 +171,11 @@ fn nested(alloc: Global, tokens: &[Token]) -> Result<Components, TokenFault>
     Ok(nesting.finish()?)
 }
 
-/// The components of tokens (CSS Syntax 3, sections 5.4.7 to 5.4.9).
+/// The component values of `tokens` (CSS Syntax 3, sections 5.4.7 to 5.4.9).
 ///
-/// A bracket is closed by its match, or ends with the tokens; a closing bracket that is no match of the innermost open one is a component.
-/// `TooDeep` is answered just where brackets and functions nest deeper than 64, unless memory runs out before.
-/// Time grows with the number and the length of the tokens, and each is copied once.
+/// A bracket is closed by its match, or ends with the tokens; a closing bracket that is not the match of the innermost open one is preserved.
+/// Returns `TooDeep` if simple blocks and functions nest deeper than `MAX_NESTING`, unless memory runs out before.
+/// Time grows with the number and the length of the tokens; each is copied once.
 pub fn components(alloc: Global, tokens: &Tokens) -> Result<Components, TokenFault>
     ensures nested { IfOk result (λ cs. IsComponents tokens.now (components_view cs) × (depths (components_view cs) ≤ MAX_NESTING)) }
     ensures deep { result ≡ Err TokenFault.TooDeep → (cs : defined.Components) × IsComponents tokens.now cs × (MAX_NESTING < depths cs) }
