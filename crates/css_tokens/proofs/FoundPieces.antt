@@ -1,5 +1,5 @@
 -- The pieces of a text, by the one that was found in front.
-use Rattle.std.proofs.Common.{true, false, ◌≡◌, ◌∙◌, ap, refl, sym, subst, ℕ, zero, suc, pred, ◌+◌, ◌<◌, ◌≤◌, List, [], ◌∷◌, ◌++◌, length, take, drop, drop-drop, length-append, length-drop, append_assoc, Option, option_map, arith}
+use Rattle.std.proofs.Common.{true, false, ◌≡◌, ◌∙◌, ap, refl, sym, subst, ℕ, zero, suc, pred, ◌+◌, ◌<◌, ◌≤◌, List, [], ◌∷◌, ◌++◌, length, take, drop, drop-drop, length-append, length-drop, append_assoc, Option, arith}
 use Rattle.std.proofs.lemmas.List.{drop_all}
 use Rattle.std.specs.Prelude.{Result, Ok, Err, IfOk}
 use Rattle.std.specs.Str.{chars}

@@ -1,10 +1,10 @@
 -- Parts in front of a text, one after another.
-use Rattle.std.proofs.Common.{◌≡◌, ◌∙◌, sym, ap, refl, subst, ℕ, zero, suc, pred, ◌+◌, ◌-◌, ◌<◌, ◌≤◌, ◌||◌, ◌&&◌, not, List, [], ◌∷◌, ◌++◌, length, map, take, drop, drop-drop, length-drop, length-append, append_assoc, append-nil, flat_map, Option, Some, None, Bool, true, false, arith, inl, inr}
+use Rattle.std.proofs.Common.{◌≡◌, ◌∙◌, sym, ap, refl, subst, ℕ, zero, suc, pred, ◌+◌, ◌-◌, ◌≤◌, ◌||◌, ◌&&◌, not, List, [], ◌∷◌, ◌++◌, length, map, take, drop, drop-drop, length-drop, length-append, append_assoc, append-nil, Some, None, true, false, arith, inl, inr}
 use Rattle.std.proofs.lemmas.Bool.{cases_Bool}
-use Rattle.std.specs.Prelude.{unwrap_or, option_map}
+use Rattle.std.specs.Prelude.{unwrap_or}
 use Rattle.css_model.specs.declared.place.Place.{Place}
 use Rattle.css_model.specs.declared.place.Place.TheVariants.{InName}
-use Rattle.css_model.specs.Classes.{Text, backslash, begins}
+use Rattle.css_model.specs.Classes.{Text, begins}
 use Rattle.css_model.specs.Parts.{Part, itself, escaped, hex_escape, escaped_newline, escape_at_end, part_text, parts_text, is_allowed, may_stand, meaning, meanings, starts_name, is_hyphen, follows_hyphen, would_start_ident}
 use Rattle.css_model.specs.inner.Fronts.{escape_in, part_in, parts_in, run_in}
 use Rattle.css_model.proofs.PartLemmas.{parts_in-cons, parts_in-stop, parts_in-nil, fronts}

@@ -1,5 +1,5 @@
 use Rattle.std.proofs.Common.{◌≡◌, ◌∙◌, ◌+◌, ◌&&◌, ap, sym, subst, drop, length, not, true, false}
-use Rattle.std.specs.Prelude.{IfOk, option_map}
+use Rattle.std.specs.Prelude.{IfOk}
 use Rattle.css_model.specs.Spellings.{is_url_name, quote_follows}
 use Rattle.css_model.specs.TokenList.{piece_text}
 use Rattle.css_tokens.specs.inner.Found.{IsFound, type_of}

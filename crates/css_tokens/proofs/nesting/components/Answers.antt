@@ -1,5 +1,5 @@
 -- The computed components are the components.
-use Rattle.std.proofs.Common.{ap, subst, List}
+use Rattle.std.proofs.Common.{subst, List}
 use Rattle.css_model.specs.declared.token.Token.{Token}
 use Rattle.css_tokens.specs.inner.OpenBrackets.{Nests}
 use Rattle.css_tokens.proofs.OpenBrackets.{nested-is, deep-is}

@@ -1,10 +1,10 @@
-use Rattle.std.proofs.Common.{◌≡◌, ◌∙◌, ap, sym, Some, None, true, false}
+use Rattle.std.proofs.Common.{◌≡◌, ◌∙◌, ap, sym, Some, None}
 use Rattle.std.specs.Prelude.{option_map}
 use Rattle.css_model.specs.declared.place.Place.TheVariants.{InName}
 use Rattle.css_model.specs.Parts.{follows_hyphen}
 use Rattle.css_model.specs.inner.Fronts.{parts_in}
 use Rattle.css_tokens.specs.inner.Parts.{part_view, front_part}
-use Rattle.css_tokens.proofs.PartSteps.{hyphen-front, ident-first, ident-hyphen, ident-other, ident-none}
+use Rattle.css_tokens.proofs.PartSteps.{ident-first, ident-hyphen, ident-other, ident-none}
 use Rattle.css_tokens.proofs.parts.would_start_ident.Goals as goal
 
 pub returns-then-starts_name : goal.returns-then-starts_name

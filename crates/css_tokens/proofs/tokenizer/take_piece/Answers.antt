@@ -1,4 +1,4 @@
-use Rattle.std.proofs.Common.{◌≡◌, ◌<◌, ◌∙◌, ap, subst, ◌++◌, length, drop, take, length-drop, option_map, arith}
+use Rattle.std.proofs.Common.{◌≡◌, ◌<◌, ◌∙◌, ap, subst, ◌++◌, length, drop, take, length-drop, arith}
 use Rattle.css_tokens.specs.inner.Found.{IsFront, tokens_of_type}
 use Rattle.css_tokens.proofs.FoundPieces.{count-some, count-within, taken-step}
 use Rattle.css_tokens.proofs.tokenizer.take_piece.Goals as goal
