@@ -7,9 +7,9 @@ use port_core::Seq;
 pub enum Component {
     /// A preserved token.
     One(Token),
-    /// A simple block: the token that opens it, its contents, and the token that closes it, if the tokens do not end before.
+    /// A simple block: the token that opens it, its contents, and the token that closes it, if one does.
     Block(Token, Seq<Component>, Option<Token>),
-    /// A function: its name and `(`, its contents, and the token that closes it, if the tokens do not end before.
+    /// A function: its name and `(`, its contents, and the token that closes it, if one does.
     Function(Token, Seq<Component>, Option<Token>),
 }
 

@@ -1,4 +1,4 @@
-//! What names, strings and urls are made of: code points and escapes (CSS Syntax 3, sections 4.3.7 and 4.3.8).
+//! Code points and escapes in names, strings and urls (CSS Syntax 3, sections 4.3.7 and 4.3.8).
 ghost use Rattle.std.specs.Prelude.{◌≡◌, ◌≤◌, ◌<◌, ◌^◌, length, min, option_to_list};
 ghost use Rattle.css_model.specs.Parts as model;
 ghost use Rattle.css_model.specs.inner.Fronts.{hex_digits_in, hex_escape_in, escape_in, part_in};
@@ -157,7 +157,7 @@ fn escape_at<'a>(rest: &'a [char]) -> Part<'a>
     }
 }
 
-/// The hex escape after whose backslash `rest` begins: up to six hex digits, and one whitespace code point.
+/// The hex escape after whose backslash `rest` begins.
 fn hex_escape_at<'a>(rest: &'a [char]) -> Part<'a>
     ensures { part_view result ≡ hex_escape_in rest.now }
 {

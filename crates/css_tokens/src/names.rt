@@ -17,7 +17,8 @@ use std::alloc::Global;
 
 /// Consumes the identifier, function or url whose name is in front of `cs`.
 pub fn consume_ident_like(alloc: Global, cs: &[char]) -> Result<Piece, NoMemory>
-    ensures { IfOk result (λ p. IsFound p (model.consume_ident_like (parts_in InName cs.now) (after_parts (parts_in InName cs.now) cs.now))) }
+    ensures { IfOk result (λ p. IsFound p
+        (model.consume_ident_like (parts_in InName cs.now) (after_parts (parts_in InName cs.now) cs.now))) }
 {
     let name = consume_parts(alloc, Place::InName, cs)?;
     if !begins(Class::OpenRound, after(cs, name.count)) {

@@ -78,7 +78,8 @@ impl Nesting {
     /// Appends a component value to the innermost open bracket.
     fn add(&mut self, component: Component) -> Result<(), NoMemory>
         ensures open_brackets { self.new.open_brackets ≡ self.old.open_brackets }
-        ensures contents { IfOk result (λ _. components_view self.new.contents ≡ followed (components_view self.old.contents) (defined.component (component_view component) defined.no_components)) }
+        ensures contents { IfOk result (λ _. components_view self.new.contents
+            ≡ followed (components_view self.old.contents) (defined.component (component_view component) defined.no_components)) }
     {
         self.contents.push(component)?;
         Ok(())
@@ -149,7 +150,8 @@ impl Nesting {
     /// Ends all open brackets, and returns the component values.
     fn finish(mut self) -> Result<Components, NoMemory>
         requires within { IsWithin self }
-        ensures { IfOk result (λ cs. (components_view cs ≡ with_rest self []) × (depths (components_view cs) ≤ MAX_NESTING)) }
+        ensures { IfOk result (λ cs. (components_view cs ≡ with_rest self [])
+            × (depths (components_view cs) ≤ MAX_NESTING)) }
     {
         while !self.open_brackets.is_empty() {
             self.end(None)?;
@@ -173,12 +175,16 @@ fn nested(alloc: Global, tokens: &[Token]) -> Result<Components, TokenFault>
 
 /// The component values of `tokens` (CSS Syntax 3, sections 5.4.7 to 5.4.9).
 ///
-/// A bracket is closed by its match, or ends with the tokens; a closing bracket that is not the match of the innermost open one is preserved.
-/// Returns `TooDeep` if simple blocks and functions nest deeper than `MAX_NESTING`, unless memory runs out before.
+/// A bracket is closed by its match, or ends with the tokens; a closing bracket that is not the
+/// match of the innermost open one is preserved.
+/// Returns `TooDeep` if simple blocks and functions nest deeper than `MAX_NESTING`, unless memory
+/// runs out before.
 /// Time grows with the number and the length of the tokens; each is copied once.
 pub fn components(alloc: Global, tokens: &Tokens) -> Result<Components, TokenFault>
-    ensures nested { IfOk result (λ cs. IsComponents tokens.now (components_view cs) × (depths (components_view cs) ≤ MAX_NESTING)) }
-    ensures deep { result ≡ Err TokenFault.TooDeep → (cs : defined.Components) × IsComponents tokens.now cs × (MAX_NESTING < depths cs) }
+    ensures nested { IfOk result (λ cs. IsComponents tokens.now (components_view cs)
+        × (depths (components_view cs) ≤ MAX_NESTING)) }
+    ensures deep { result ≡ Err TokenFault.TooDeep →
+        (cs : defined.Components) × IsComponents tokens.now cs × (MAX_NESTING < depths cs) }
 {
     nested(alloc, tokens.as_slice())
 }

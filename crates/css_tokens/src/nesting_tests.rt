@@ -4,7 +4,8 @@ use port_core::NoMemory;
 use std::alloc::Global;
 use std::test::Fail;
 
-/// Spells components: a block between `<` and `>`, a function between `/` and `/`, and `_` where a closing token is missing.
+/// Spells components: a block between `<` and `>`, a function between `/` and `/`, and `_` for a
+/// closing token that is missing.
 fn spell(components: &[Component], spelled: &mut String) -> Result<(), NoMemory> {
     for component in components {
         match component {

@@ -17,7 +17,8 @@ use std::alloc::Global;
 /// Consumes the number, percentage or dimension in front of `cs`.
 pub fn consume_numeric(alloc: Global, cs: &[char]) -> Result<Piece, NoMemory>
     requires { would_start_number cs.now ≡ true }
-    ensures { IfOk result (λ p. IsFound p (model.consume_numeric (numeral_in cs.now) (drop (length (written.numeral_text (numeral_in cs.now))) cs.now))) }
+    ensures { IfOk result (λ p. IsFound p (model.consume_numeric (numeral_in cs.now)
+        (drop (length (written.numeral_text (numeral_in cs.now))) cs.now))) }
 {
     let (number, count) = read_number(cs);
     let rest = after(cs, count);

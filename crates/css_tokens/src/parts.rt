@@ -1,4 +1,5 @@
-//! The parts of a name, string or url in front of a text (CSS Syntax 3, sections 4.3.5, 4.3.6, 4.3.9 and 4.3.11).
+//! The parts of a name, string or url in front of a text (CSS Syntax 3, sections 4.3.5, 4.3.6, 4.3.9
+//! and 4.3.11).
 ghost use Rattle.std.specs.Prelude.{◌≡◌, ◌≤◌, ◌++◌, length, option_map, option_to_list, string_bytes, IfOk, OnOk};
 ghost use Rattle.std.specs.List.{prefix_len};
 ghost use Rattle.std.specs.Str.{chars};
@@ -77,7 +78,8 @@ fn consume_escapes(alloc: Global, place: Place, cs: &[char]) -> Result<Consumed,
 }
 
 fn push_meaning(text: &mut String, meaning: Option<char>) -> Result<(), NoMemory>
-    ensures { OnOk result (chars (string_bytes text.new) ≡ chars (string_bytes text.old) ++ option_to_list meaning) }
+    ensures { OnOk result (chars (string_bytes text.new)
+        ≡ chars (string_bytes text.old) ++ option_to_list meaning) }
 {
     match meaning {
         Some(c) => push_char(text, c),
@@ -114,7 +116,7 @@ fn front_part<'a>(place: Place, cs: &'a [char]) -> Option<Part<'a>>
     }
 }
 
-/// Whether the parts of a name in front of `cs` would start an identifier (CSS Syntax 3, section 4.3.9).
+/// Whether the parts of a name in front of `cs` would start an identifier (section 4.3.9).
 pub fn would_start_ident(cs: &[char]) -> bool
     ensures { result ≡ model.would_start_ident (parts_in InName cs.now) }
 {

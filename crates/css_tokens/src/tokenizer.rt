@@ -39,7 +39,8 @@ fn take_piece(alloc: Global, tokens: &mut Tokens, cs: &[char], at: usize) -> Res
     requires { at < length cs.now }
     ensures forward { IfOk result (λ next. at < next) }
     ensures within { IfOk result (λ next. next ≤ length cs.now) }
-    ensures taken { IfOk result (λ next. tokens.new ++ tokens_from next (pieces (drop next cs.now)) ≡ tokens.old ++ tokens_from at (pieces (drop at cs.now))) }
+    ensures taken { IfOk result (λ next. tokens.new ++ tokens_from next (pieces (drop next cs.now))
+        ≡ tokens.old ++ tokens_from at (pieces (drop at cs.now))) }
 {
     let rest = after(cs, at);
     let piece = first_piece(alloc, rest)?;

@@ -16,7 +16,8 @@ use std::alloc::Global;
 /// Consumes a url or bad url; `head` code points of `cs` are its name and `(`.
 pub fn consume_url(alloc: Global, head: usize, cs: &[char]) -> Result<Piece, NoMemory>
     requires { head ≤ length cs.now }
-    ensures { (h : Text) → length h ≡ head → IfOk result (λ p. IsFound p (model.consume_url h (drop head cs.now))) }
+    ensures { (h : Text) → length h ≡ head →
+        IfOk result (λ p. IsFound p (model.consume_url h (drop head cs.now))) }
 {
     let (before, rest) = run(Class::Whitespace, after(cs, head));
     let url = consume_parts(alloc, Place::InUrl, rest)?;
@@ -40,7 +41,8 @@ fn ends(cs: &[char]) -> bool
 /// Consumes the remnants of a bad url; `head` code points of `cs` are its name and `(`.
 fn consume_bad_url_remnants(head: usize, cs: &[char]) -> Piece
     requires { head ≤ length cs.now }
-    ensures { (h : Text) → length h ≡ head → IsFound result (model.consume_bad_url_remnants h (drop head cs.now)) }
+    ensures { (h : Text) → length h ≡ head →
+        IsFound result (model.consume_bad_url_remnants h (drop head cs.now)) }
 {
     let inside = after(cs, head);
     let count = parts_length(Place::InBadUrl, inside);
