@@ -12,21 +12,21 @@ impl TokenType {
         ensures { IfOk result (λ copy. copy ≡ self.now) }
     {
         Ok(match self {
-            TokenType::Ident(name) => TokenType::Ident(copy_text(alloc, name)?),
-            TokenType::Function(name) => TokenType::Function(copy_text(alloc, name)?),
-            TokenType::AtKeyword(name) => TokenType::AtKeyword(copy_text(alloc, name)?),
+            TokenType::Ident(name) => TokenType::Ident(name.copy(alloc)?),
+            TokenType::Function(name) => TokenType::Function(name.copy(alloc)?),
+            TokenType::AtKeyword(name) => TokenType::AtKeyword(name.copy(alloc)?),
             TokenType::Hash { name, is_id } => TokenType::Hash {
-                name: copy_text(alloc, name)?,
+                name: name.copy(alloc)?,
                 is_id: *is_id,
             },
-            TokenType::String(value) => TokenType::String(copy_text(alloc, value)?),
+            TokenType::String(value) => TokenType::String(value.copy(alloc)?),
             TokenType::BadString => TokenType::BadString,
-            TokenType::Url(value) => TokenType::Url(copy_text(alloc, value)?),
+            TokenType::Url(value) => TokenType::Url(value.copy(alloc)?),
             TokenType::BadUrl => TokenType::BadUrl,
             TokenType::Delim(c) => TokenType::Delim(*c),
             TokenType::Number(n) => TokenType::Number(*n),
             TokenType::Percentage(n) => TokenType::Percentage(*n),
-            TokenType::Dimension(n, unit) => TokenType::Dimension(*n, copy_text(alloc, unit)?),
+            TokenType::Dimension(n, unit) => TokenType::Dimension(*n, unit.copy(alloc)?),
             TokenType::Whitespace => TokenType::Whitespace,
             TokenType::Cdo => TokenType::Cdo,
             TokenType::Cdc => TokenType::Cdc,
@@ -71,15 +71,9 @@ impl Token {
             token_type: self.token_type.copy(alloc)?,
             start: self.start,
             end: self.end,
-            spelling: copy_text(alloc, &self.spelling)?,
+            spelling: self.spelling.copy(alloc)?,
         })
     }
-}
-
-fn copy_text(alloc: Global, text: &Text) -> Result<Text, NoMemory>
-    ensures { IfOk result (λ copy. copy ≡ text.now) }
-{
-    Text::new(alloc, text.as_str())
 }
 
 #[cfg(test)]

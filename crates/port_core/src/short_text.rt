@@ -6,12 +6,12 @@ ghost use Rattle.port_core.specs.declared.short_text.TheConstants.{ROOM};
 use std::str;
 
 /// How many bytes a short text has at most.
-pub const ROOM: usize = 14;
+pub const ROOM: usize = 12;
 
 /// A short text: the first `len` of `bytes`.
 #[derive(Clone, Copy, Debug)]
 pub struct ShortText {
-    len: u8,
+    len: u16,
     bytes: [u8; ROOM],
     ghost fits: { len ≤ ROOM },
     ghost utf8: { ∥ IsUtf8 (take len bytes) ∥₁ },
@@ -27,7 +27,7 @@ impl ShortText {
         let len = s.len();
         bytes[..len].copy_from_slice(s.as_bytes());
         ShortText {
-            len: len as u8,
+            len: len as u16,
             bytes,
         }
     }
@@ -49,7 +49,7 @@ impl ShortText {
             bytes[i] = c as u8;
         }
         Some(ShortText {
-            len: cs.len() as u8,
+            len: cs.len() as u16,
             bytes,
         })
     }

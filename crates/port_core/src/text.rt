@@ -150,8 +150,8 @@ mod tests {
         for s in [
             "",
             "größe",
-            "fourteen-bytes",
-            "fifteen--bytes!",
+            "twelve-bytes",
+            "thirteen-byte",
             "a much longer text, größer",
         ] {
             let text = Text::new(rt.alloc(), s)?;
