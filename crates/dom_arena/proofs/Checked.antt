@@ -26,7 +26,7 @@ pub record Fits (above live next : ℕ) (t : Tree) : Type 0 where
   pub few : live + size t ≤ MAX_NODES
   pub given : next + size t ≤ MAX_IDS
 
-pub fits : (above live next : ℕ) (t : Tree) → first_of (tree_causes above live next t) ≡ None → Fits above live next t
+pub fits : (above live next : ℕ) (t : Tree) → first_of (tree_causes (record { level = above; nodes = live; ids = next; code_points = 0 }) t) ≡ None → Fits above live next t
 fits above live next t h =
     let three = three-none (nat_lt MAX_DEPTH (above + depth t)) (nat_lt MAX_NODES (live + size t)) (nat_lt MAX_IDS (next + size t)) DepthLimit NodeLimit IdLimit h in
     record {

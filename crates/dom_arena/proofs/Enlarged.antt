@@ -6,7 +6,7 @@ use Rattle.page_model.specs.Trees.{Tree, size, depth}
 use Rattle.page_model.specs.Document.{Document, Node, id_of, children_of, ids_of, name_of, name_at, ids, find, height, node_count, with_ids, IsAmong}
 use Rattle.page_model.specs.Refusals.{first_of}
 use Rattle.page_model.specs.declared.cause.Cause.TheVariants.{NoNode, NotElement, BadIndex}
-use Rattle.page_model.specs.Edits.{tree_after_insert, level, child_count, insert_causes, tree_causes}
+use Rattle.page_model.specs.Edits.{taken_below, tree_after_insert, level, child_count, insert_causes, tree_causes}
 use Rattle.dom_arena.proofs.Members.{among-top, among-find, find-among, find-part, find-distinct, some-is}
 use Rattle.dom_arena.proofs.Parents.{kid-below}
 use Rattle.dom_arena.proofs.Levels.{level-found}
@@ -50,7 +50,7 @@ is_some-not_none None h = absurd (false≢true (sym h))
 
 pub may-insert : (parent at : ℕ) (t : Tree) (d : Document) → first_of (insert_causes parent at t d) ≡ None → MayInsert parent at t d.root d.next_id
 may-insert parent at t d h =
-    let trees = tree_causes (unwrap_or (level parent d.root) 0) (node_count d.root) d.next_id t in
+    let trees = tree_causes (taken_below parent d) t in
     let indexed = (nat_lt (child_count parent d.root) at, BadIndex) ∷ trees in
     let named = (is_none (name_at parent d.root), NotElement) ∷ indexed in
     let live = first-none (is_none (find parent d.root)) NoNode named h in

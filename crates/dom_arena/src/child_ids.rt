@@ -53,7 +53,7 @@ impl ChildIds {
     /// Puts a number in, with so many before it. Where memory runs out, nothing is changed.
     pub fn insert(&mut self, index: usize, id: NodeId) -> Result<(), NoMemory>
         requires within { index ≤ length self.old }
-        ensures tree_after_insert { OnOk result (self.new ≡ insert self.old index id) }
+        ensures inserted { OnOk result (self.new ≡ insert self.old index id) }
         ensures kept { OnErr result (self.new ≡ self.old) }
     {
         self.ids.insert(index, id)?;

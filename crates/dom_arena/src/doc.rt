@@ -72,7 +72,7 @@ impl Doc {
         // what holds of each document
         ensures element { IsSome (name_of self.now.root) }
         ensures distinct { AreDistinct (ids self.now.root) }
-        ensures with_ids { (i : ℕ) → IsAmong i (ids self.now.root) → i < self.now.next_id }
+        ensures numbered { (i : ℕ) → IsAmong i (ids self.now.root) → i < self.now.next_id }
         ensures given { self.now.next_id ≤ MAX_IDS }
         ensures few { node_count self.now.root ≤ MAX_NODES }
         ensures low { height self.now.root ≤ MAX_DEPTH }
@@ -143,7 +143,7 @@ impl Doc {
     ///
     /// Refused with `NoNode`, `NotElement`, `BadIndex` where the element has fewer children than that, `DepthLimit`, `NodeLimit` or `IdLimit`, by the first that holds; then, and where memory runs out, nothing is changed. Its time is linear in the number of the parent's children and of new nodes.
     pub fn insert(&mut self, parent: NodeId, index: usize, tree: &Tree) -> Result<NodeId, DocFault>
-        ensures tree_after_insert { OnOk result (self.new ≡ document_after_insert parent index (shape tree.now) self.old) }
+        ensures inserted { OnOk result (self.new ≡ document_after_insert parent index (shape tree.now) self.old) }
         ensures number { IfOk result (λ id. id ≡ self.old.next_id) }
         ensures causes { AnswersBy (insert_causes parent index (shape tree.now) self.old) result }
         ensures kept { OnErr result (self.new ≡ self.old) }
@@ -191,7 +191,7 @@ impl Doc {
     ///
     /// Refused with `NoNode`, and with `IsRoot` for the root; then nothing is changed. Its time is linear in the number of the parent's children and of the nodes that go.
     pub fn remove(&mut self, id: NodeId) -> Result<(), DocFault>
-        ensures tree_after_remove { OnOk result (self.new ≡ document_after_remove id self.old) }
+        ensures removed { OnOk result (self.new ≡ document_after_remove id self.old) }
         ensures causes { AnswersBy (remove_causes id self.old) result }
         ensures without_memory { IfErr result (λ e. e ≢ DocFault.NoMemory) }
         ensures kept { OnErr result (self.new ≡ self.old) }

@@ -106,7 +106,7 @@ pub fn insert(
     requires parent { parent < length slots.old.items }
     requires within { index ≤ length (kids_at slots.old.items parent) }
     ensures number { IfOk result (λ id. id ≡ length slots.old.items) }
-    ensures tree_after_insert { OnOk result (slots.new.items ≡ enlarged parent index (shape tree.now) slots.old.items) }
+    ensures inserted { OnOk result (slots.new.items ≡ enlarged parent index (shape tree.now) slots.old.items) }
     ensures kept { OnErr result (slots.new.items ≡ slots.old.items) }
 {
     let given = slots.len();
@@ -129,7 +129,7 @@ fn append_and_attach(
     requires parent { parent < length slots.old.items }
     requires within { index ≤ length (kids_at slots.old.items parent) }
     ensures number { IfOk result (λ id. id ≡ length slots.old.items) }
-    ensures tree_after_insert { OnOk result (slots.new.items ≡ enlarged parent index (shape tree.now) slots.old.items) }
+    ensures inserted { OnOk result (slots.new.items ≡ enlarged parent index (shape tree.now) slots.old.items) }
     ensures longer { OnErr result (IsLonger slots.old.items slots.new.items) }
 {
     let id = copies::append(alloc, slots, tree, Some(parent), index)?;

@@ -17,7 +17,8 @@ pub fn check(tree: &Tree, above: u32, live: u32, given: u32) -> Result<(), DocFa
     requires above { above ≤ MAX_DEPTH }
     requires live { live ≤ MAX_NODES }
     requires given { given ≤ MAX_IDS }
-    ensures { ChecksBy (tree_causes above live given (shape tree.now)) result }
+    ensures { ChecksBy (tree_causes
+        (record { level = above; nodes = live; ids = given; code_points = 0 }) (shape tree.now)) result }
 {
     if !is_within(tree, MAX_DEPTH - above) {
         return Err(DocFault::DepthLimit);
