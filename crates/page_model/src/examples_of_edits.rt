@@ -107,6 +107,12 @@ pub fn examples_of_edit_causes()
         × (first_of (move_causes 0 1 9 d) ≡ Some IsRoot) × (first_of (move_causes 2 3 9 d) ≡ Some NotElement)
         × (first_of (move_causes 2 2 9 d) ≡ Some Cycle) × (first_of (move_causes 1 0 2 d) ≡ Some BadIndex)
         × (first_of (move_causes 1 0 1 d) ≡ None) × (first_of (move_causes 1 2 1 d) ≡ None) }
+    ensures move_below_itself { let d : Document = record {
+      root = element 0 (codes "a") []
+          (node (element 1 (codes "b") [] (node (element 2 (codes "c") [] no_nodes) no_nodes)) no_nodes);
+      next_id = 3;
+    }
+        in (first_of (move_causes 1 2 9 d) ≡ Some Cycle) × (first_of (move_causes 2 0 1 d) ≡ None) }
     ensures set_attr { let d : Document = record { root = element 0 (codes "a") [] (node (text 1 (codes "x")) no_nodes); next_id = 7 }
         in (first_of (set_attr_causes 9 [] [] d) ≡ Some NoNode) × (first_of (set_attr_causes 1 [] [] d) ≡ Some NotElement)
         × (first_of (set_attr_causes 0 [] [] d) ≡ Some BadName) × (first_of (set_attr_causes 0 (codes "k") [] d) ≡ None) }
