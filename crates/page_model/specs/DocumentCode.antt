@@ -12,12 +12,12 @@ Start = Option ((ℕ × (Text × List Attribute)) ⊎ (ℕ × Text))
 -- the starts and ends of the nodes, and then more
 abbrev pub starts : Nodes → List Start → List Start
 starts no_nodes more = None ∷ more
-starts (node (element id name attributes kids) ns) more = Some (inl (id, (name, attributes))) ∷ starts kids (starts ns more)
+starts (node (element id name attributes children) ns) more = Some (inl (id, (name, attributes))) ∷ starts children (starts ns more)
 starts (node (text id cs) ns) more = Some (inr (id, cs)) ∷ starts ns more
 
 abbrev pub joined : (ℕ × (Text × List Attribute)) ⊎ (ℕ × Text) → List Nodes → List Nodes
-joined (inl e) (kids ∷ ns ∷ more) = node (element e.0 e.1.0 e.1.1 kids) ns ∷ more
-joined (inl e) (kids ∷ []) = []
+joined (inl e) (children ∷ ns ∷ more) = node (element e.0 e.1.0 e.1.1 children) ns ∷ more
+joined (inl e) (children ∷ []) = []
 joined (inl e) [] = []
 joined (inr t) (ns ∷ more) = node (text t.0 t.1) ns ∷ more
 joined (inr t) [] = []
@@ -35,8 +35,8 @@ top [] = text 0 []
 
 pub read_starts-starts : (ns : Nodes) (more : List Start) → read_starts (starts ns more) ≡ ns ∷ read_starts more
 read_starts-starts no_nodes more = refl
-read_starts-starts (node (element id name attributes kids) ns) more =
-    ap (joined (inl (id, (name, attributes)))) (read_starts-starts kids (starts ns more) ∙ ap (λ (st : List Nodes). kids ∷ st) (read_starts-starts ns more))
+read_starts-starts (node (element id name attributes children) ns) more =
+    ap (joined (inl (id, (name, attributes)))) (read_starts-starts children (starts ns more) ∙ ap (λ (st : List Nodes). children ∷ st) (read_starts-starts ns more))
 read_starts-starts (node (text id cs) ns) more = ap (joined (inr (id, cs))) (read_starts-starts ns more)
 
 abbrev pub coded_start : Coded Start

@@ -1,4 +1,6 @@
+pub mod Names
 pub mod Trees
+pub mod Attributes
 pub mod Document
 pub mod DocumentCode
 pub mod Jsonml

@@ -1,0 +1,17 @@
+pub mod Options
+pub mod IsAmong
+pub mod Spliced
+pub mod Find
+pub mod ParentOf
+pub mod WithIds
+pub mod Levels
+pub mod TreeAfterInsert
+pub mod TreeAfterRemove
+pub mod DocumentAfterInsert
+pub mod DocumentAfterRemove
+pub mod BrokenLimits
+pub mod Siblings
+pub mod TreeAfterMove
+pub mod TreeAfterChange
+pub mod AttributesInOrder
+pub mod AttributesAfterChange

@@ -1,0 +1,51 @@
+//! The limits that an edit breaks.
+ghost use Rattle.std.specs.Prelude.{Some, max, nat_lt, ℕ, ◌+◌, ◌≡◌, ◌≤◌};
+ghost use Rattle.page_laws.specs.ChildLists.{IsPlace, TakesChildren};
+ghost use Rattle.page_laws.specs.Limits.{KeepsGrammar, broken_limits};
+ghost use Rattle.page_model.specs.Document.{Document, document, height, node_count, without_ids};
+ghost use Rattle.page_model.specs.Edits.{document_after_insert, insert_causes, level, load_causes};
+ghost use Rattle.page_model.specs.Refusals.{first_of};
+ghost use Rattle.page_model.specs.Trees.{Tree, depth, size, text_size};
+ghost use Rattle.page_model.specs.declared.limits.TheConstants.{MAX_DEPTH};
+
+/// The new tree stands one level below its parent.
+pub fn height_after_insert()
+    ensures { (parent index : ℕ) (t : Tree) (d : Document) (l : ℕ) → TakesChildren parent d
+        → level parent d.root ≡ Some l
+        → height (document_after_insert parent index t d).root ≡ max (height d.root) (l + depth t) }
+{}
+
+/// An insert adds the nodes of its tree.
+pub fn nodes_after_insert()
+    ensures { (parent index : ℕ) (t : Tree) (d : Document) → TakesChildren parent d
+        → node_count (document_after_insert parent index t d).root ≡ node_count d.root + size t }
+{}
+
+/// An insert adds the code points of its tree.
+pub fn code_points_after_insert()
+    ensures { (parent index : ℕ) (t : Tree) (d : Document) → TakesChildren parent d
+        → text_size (without_ids (document_after_insert parent index t d).root)
+        ≡ text_size (without_ids d.root) + text_size t }
+{}
+
+/// An insert is too deep exactly where the document after it is, if the document was not.
+pub fn depth_of_insert()
+    ensures { (parent index : ℕ) (t : Tree) (d : Document) (l : ℕ) → TakesChildren parent d
+        → level parent d.root ≡ Some l → height d.root ≤ MAX_DEPTH
+        → nat_lt MAX_DEPTH (l + depth t)
+        ≡ nat_lt MAX_DEPTH (height (document_after_insert parent index t d).root) }
+{}
+
+/// The limit that refuses an insert is the first that the document after it would break, if the
+/// document breaks none.
+pub fn of_insert()
+    ensures { (parent index : ℕ) (t : Tree) (d : Document) → IsPlace parent index d
+        → KeepsGrammar d.root → height d.root ≤ MAX_DEPTH
+        → first_of (insert_causes parent index t d)
+        ≡ first_of (broken_limits (document_after_insert parent index t d)) }
+{}
+
+/// The limit that refuses a load is the first that the document after it would break.
+pub fn of_load()
+    ensures { (t : Tree) → first_of (load_causes t) ≡ first_of (broken_limits (document t)) }
+{}
