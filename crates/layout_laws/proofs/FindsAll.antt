@@ -1,5 +1,5 @@
 -- Where no id stands twice, a part of a tree has the same nodes by their ids as the whole.
-use Rattle.std.proofs.Common.{List, ap, false, inl, inr, is_some, ℕ, ◌++◌, ◌==◌, ◌∙◌, ◌≡◌}
+use Rattle.std.proofs.Common.{List, false, inr, refl, ℕ, ◌++◌, ◌==◌, ◌∙◌, ◌≡◌}
 use Rattle.page_laws.proofs.Find.{among-find, find-among}
 use Rattle.page_laws.proofs.IsAmong.{among-left, among-other, among-right, distinct-apart}
 use Rattle.page_laws.proofs.Options.{or-first, or-second}
@@ -28,4 +28,4 @@ finds-head root n ns f = λ i h.
 pub finds-rest : (root n : Node) (ns : Nodes) → AreDistinct (ids n ++ all_ids ns) → FindsAll root (node n ns) → FindsAll root ns
 finds-rest root n ns d f = λ i h.
     f i (among-right i (ids n) (all_ids ns) h)
-        ∙ or-second (find i n) (find_in i ns) (λ k. distinct-apart i (ids n) (all_ids ns) d (find-among i n k) h)
+    ∙ or-second (find i n) (find_in i ns) (λ k. distinct-apart i (ids n) (all_ids ns) d (find-among i n k) h)

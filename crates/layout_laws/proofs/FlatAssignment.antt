@@ -1,12 +1,13 @@
 -- The assignment of flat blocks is consistent.
-use Rattle.std.proofs.Common.{None, Option, ap, inl, option_and_then, option_map, refl, ℕ, ◌++◌, ◌∙◌, ◌≡◌}
+use Rattle.std.proofs.Common.{Option, ap, inl, option_and_then, option_map, refl, ◌∙◌}
 use Rattle.std.specs.Prelude.{pos, ℤ}
 use Rattle.layout_laws.proofs.FindsAll.{Finds, FindsAll, finds-children, finds-head, finds-rest}
-use Rattle.layout_model.specs.Boxes.{Box, units_of_pixels}
+use Rattle.layout_model.specs.Boxes.{units_of_pixels}
 use Rattle.layout_model.specs.Consistent.{AllHold, Assignment, Consistent, Entry, Holds}
 use Rattle.layout_model.specs.Setting.{Setting}
 use Rattle.page_laws.proofs.Find.{find-top}
 use Rattle.page_laws.proofs.IsAmong.{distinct-left, distinct-right}
+use Rattle.page_laws.specs.Ids.{HasGivenIds}
 use Rattle.page_model.specs.Document.{AreDistinct, Node, Nodes, all_ids, element, ids, name_at, name_of, no_nodes, node, text}
 use Rattle.page_model.specs.Pages.{Page}
 
@@ -46,9 +47,13 @@ mutual
     all-hold-flat width root ns (distinct-right (ids n) (all_ids ns) d) (finds-rest root n ns d f),
   )
 
-pub consistent-flat : (setting : Setting) (page : Page) → AreDistinct (ids page.document.root)
-    → Consistent setting page (flat_assignment (units_of_pixels page.viewport.width) page.document.root)
-consistent-flat setting page d = record {
-  holds = holds-flat (units_of_pixels page.viewport.width) page.document.root page.document.root d (λ i h. refl);
-  no_other = λ i none. rw none refl;
-}
+pub some-consistent : (setting : Setting) (page : Page) → HasGivenIds page.document → (a : Assignment) × Consistent setting page a
+some-consistent setting page given =
+    let width : ℤ = units_of_pixels page.viewport.width in
+    let root : Node = page.document.root in (
+      flat_assignment width root,
+      record {
+        holds = holds-flat width root root given.0 (λ i h. refl);
+        no_other = λ i none. rw none refl;
+      },
+    )

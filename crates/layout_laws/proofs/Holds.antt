@@ -1,5 +1,5 @@
 -- What the equations say of an element that is found by its id.
-use Rattle.std.proofs.Common.{IsSome, None, Option, Some, ap, eqb-true, inl, inr, is_some, refl, subst, sym, ℕ, ◌==◌, ◌∙◌, ◌≡◌}
+use Rattle.std.proofs.Common.{IsSome, None, Option, Some, ap, eqb-true, inl, inr, is_some, subst, sym, ℕ, ◌==◌, ◌∙◌, ◌≡◌}
 use Rattle.std.proofs.lemmas.Bool.{false≢true}
 use Rattle.std.proofs.lemmas.Option.{none-some, same_Some}
 use Rattle.layout_model.specs.Boxes.{Box, Containing, IsFlatBlock, content_block, viewport_block}
@@ -22,6 +22,10 @@ box-same around x y p q = λ j. record {
   content_height = (p.content_height ∙ (p.height ∙ (sym q.height ∙ sym q.content_height))) j;
 }
 
+-- what an element with this box is given
+abbrev given : Box → Option Entry
+given box = Some (record { box = box })
+
 -- two assignments whose equations hold give an element the same
 mutual
   holds-same : (a b : Assignment) (around : Containing) (n : Node) → Holds a around n → Holds b around n
@@ -30,7 +34,7 @@ mutual
       let box : h.0.box ≡ k.0.box = box-same around h.0.box k.0.box h.2 k.2 in
       elim (if-found (i == id) (element id name attributes children) m (find_in i children) found) [
         | inl e ↦ subst (λ (j : ℕ). a j ≡ b j) (sym (eqb-true i id e.0))
-            (h.1 ∙ (ap (λ (x : Box). Some {A = Entry} (record { box = x })) box ∙ sym k.1))
+            (h.1 ∙ (ap given box ∙ sym k.1))
         | inr e ↦ all-hold-same a b (content_block h.0.box) children h.3
             (subst (λ (x : Box). AllHold b (content_block x) children) (sym box) k.3) i m e.1 named
       ]
