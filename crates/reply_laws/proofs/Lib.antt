@@ -1,0 +1,4 @@
+pub mod AreLogs
+pub mod StateHasGivenIds
+pub mod IsAnswered
+pub mod AreReplies

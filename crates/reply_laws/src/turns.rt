@@ -1,0 +1,54 @@
+//! Laws of the answer to one line.
+ghost use Rattle.std.specs.Prelude.{◌≡◌, ℕ, List, [], length, None};
+ghost use Rattle.reply_laws.specs.States.{StateHasGivenIds};
+ghost use Rattle.reply_model.specs.Replies.{Course, IsTurn, newest};
+ghost use Rattle.request_model.specs.Requests.{Asked, Edit, broken, edit, nothing, query, request};
+ghost use Rattle.request_model.specs.States.{answer_to, refusal_of, refused, state_after_edit};
+ghost use Rattle.request_model.specs.declared.query.Query.{Query};
+ghost use Rattle.page_model.specs.declared.cause.Cause.{Cause};
+ghost use Rattle.stream_model.specs.Ledger.{Log};
+ghost use Rattle.layout_model.specs.Setting.{Setting};
+
+/// Whatever a line asks for has an answer.
+pub fn exist()
+    ensures { (setting : Setting) (from : Course) (asked : Asked) → StateHasGivenIds from.state
+        → (own : List Log) × ((reply : List ℕ) × ((to : Course) × IsTurn setting from asked own reply to)) }
+{}
+
+/// By its logs, what a line asks for has one reply, and leads to one place.
+pub fn have_one_reply()
+    ensures { (setting : Setting) (from to to' : Course) (asked : Asked) (own : List Log) (reply reply' : List ℕ)
+        → IsTurn setting from asked own reply to → IsTurn setting from asked own reply' to'
+        → (reply ≡ reply') × (to ≡ to') }
+{}
+
+/// What is refused leaves what is loaded, and the log of the last accepted edit.
+pub fn refused_change_nothing()
+    ensures { (setting : Setting) (from to : Course) (asked : Asked) (own : List Log) (reply : List ℕ) (c : Cause)
+        → answer_to from.state asked ≡ refused c → IsTurn setting from asked own reply to → to ≡ from }
+{}
+
+/// A query leaves what is loaded, and the log of the last accepted edit.
+pub fn queries_change_nothing()
+    ensures { (setting : Setting) (from to : Course) (q : Query) (own : List Log) (reply : List ℕ)
+        → IsTurn setting from (request (query q)) own reply to → to ≡ from }
+{}
+
+/// An edit that is not refused leads to the state after it, and its log is the last one.
+pub fn accepted_edits_lead_on()
+    ensures { (setting : Setting) (from to : Course) (e : Edit) (own : List Log) (reply : List ℕ)
+        → refusal_of from.state (edit e) ≡ None → IsTurn setting from (request (edit e)) own reply to
+        → (to.state ≡ state_after_edit from.state e) × (to.last ≡ newest own from.last) }
+{}
+
+/// An edit begins one log, refused or not, and nothing else begins one.
+pub fn edits_alone_begin_logs()
+    ensures edits { (setting : Setting) (from to : Course) (e : Edit) (own : List Log) (reply : List ℕ)
+        → IsTurn setting from (request (edit e)) own reply to → length own ≡ 1 }
+    ensures queries { (setting : Setting) (from to : Course) (q : Query) (own : List Log) (reply : List ℕ)
+        → IsTurn setting from (request (query q)) own reply to → own ≡ [] }
+    ensures broken_lines { (setting : Setting) (from to : Course) (c : Cause) (own : List Log) (reply : List ℕ)
+        → IsTurn setting from (broken c) own reply to → own ≡ [] }
+    ensures blank_lines { (setting : Setting) (from to : Course) (own : List Log) (reply : List ℕ)
+        → IsTurn setting from nothing own reply to → own ≡ [] }
+{}
