@@ -9,7 +9,7 @@ use Rattle.reply_laws.proofs.IsAnswered.{length-turn, turn-accepted, turn-one, t
 use Rattle.reply_laws.proofs.StateHasGivenIds.{given-turn}
 use Rattle.reply_laws.specs.Scripts.{IsEditThenDump}
 use Rattle.reply_laws.specs.States.{StateHasGivenIds}
-use Rattle.reply_model.specs.Replies.{AreReplies, Course, IsAnswered, IsEditReply, IsQueryReply, IsTurn, Step}
+use Rattle.reply_model.specs.Replies.{AreReplies, Course, IsEditReply, IsQueryReply, IsTurn, Step}
 use Rattle.request_model.specs.Requests.{Edit, asked_of_line, edit, insert, load, query, remove, request}
 use Rattle.request_model.specs.States.{is_plain, refusal_of, state_after_edit}
 use Rattle.request_model.specs.declared.query.Query.TheVariants.{Dump}
@@ -49,15 +49,15 @@ replies-one setting (line ∷ lines) from logs text text' p q =
     let s : Step setting from line logs text = p.0 in
     let t : Step setting from line logs text' = q.0 in
     let count : length s.own ≡ length t.own =
-      length-turn setting from s.to (asked_of_line line) s.own s.reply s.turn ∙ sym (length-turn setting from t.to (asked_of_line line) t.own t.reply t.turn) in
+    length-turn setting from s.to (asked_of_line line) s.own s.reply s.turn ∙ sym (length-turn setting from t.to (asked_of_line line) t.own t.reply t.turn) in
     let cut : (s.own ≡ t.own) × (s.later ≡ t.later) = cut-same s.own s.later t.own t.later count (sym s.logs_are ∙ t.logs_are) in
     let turn : IsTurn setting from (asked_of_line line) t.own s.reply s.to =
-      subst (λ (own : List Log). IsTurn setting from (asked_of_line line) own s.reply s.to) cut.0 s.turn in
+    subst (λ (own : List Log). IsTurn setting from (asked_of_line line) own s.reply s.to) cut.0 s.turn in
     let same : (s.reply ≡ t.reply) × (s.to ≡ t.to) = turn-one setting from s.to t.to (asked_of_line line) t.own s.reply t.reply turn t.turn in
     let later : AreReplies setting s.to lines t.later s.others =
-      subst (λ (logs : List Log). AreReplies setting s.to lines logs s.others) cut.1 p.1 in
+    subst (λ (logs : List Log). AreReplies setting s.to lines logs s.others) cut.1 p.1 in
     let there : AreReplies setting t.to lines t.later s.others =
-      subst (λ (to : Course). AreReplies setting to lines t.later s.others) same.1 later in
+    subst (λ (to : Course). AreReplies setting to lines t.later s.others) same.1 later in
     let others : s.others ≡ t.others = replies-one setting lines t.to t.later s.others t.others there q.1 in
     s.text_is ∙ (ap₂ (λ (x y : List ℕ). x ++ y) same.0 others ∙ sym t.text_is)
 
@@ -96,9 +96,9 @@ edit-then-dump setting from first second e logs text one two none p =
     let s : Step setting from first logs text = p.0 in
     let t : Step setting s.to second s.later s.others = p.1.0 in
     let edit_turn : IsTurn setting from (request (edit e)) s.own s.reply s.to =
-      subst (λ asked. IsTurn setting from asked s.own s.reply s.to) one s.turn in
+    subst (λ asked. IsTurn setting from asked s.own s.reply s.to) one s.turn in
     let dump_turn : IsTurn setting s.to (request (query Dump)) t.own t.reply t.to =
-      subst (λ asked. IsTurn setting s.to asked t.own t.reply t.to) two t.turn in
+    subst (λ asked. IsTurn setting s.to asked t.own t.reply t.to) two t.turn in
     let edited : IsEditReply setting from e s.own s.reply s.to = turn-accepted setting from s.to (edit e) s.own s.reply none edit_turn in
     let loaded : IsSome s.to.state = subst (λ (s : State). IsSome s) (sym edited.state) (loaded-after from.state e none) in
     record {

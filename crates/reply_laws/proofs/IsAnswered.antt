@@ -2,7 +2,7 @@
 use Rattle.std.proofs.Common.{List, None, Option, Some, [], ap, length, refl, subst, sym, ℕ, ◌++◌, ◌∷◌, ◌∙◌, ◌≡◌}
 use Rattle.layout_laws.proofs.FlatAssignment.{some-consistent}
 use Rattle.layout_laws.proofs.Holds.{consistent-same}
-use Rattle.layout_model.specs.Consistent.{Assignment, Consistent}
+use Rattle.layout_model.specs.Consistent.{Assignment}
 use Rattle.layout_model.specs.Setting.{Setting}
 use Rattle.page_model.specs.Pages.{Page, State}
 use Rattle.page_model.specs.Refusals.{first_of}
@@ -10,7 +10,7 @@ use Rattle.page_model.specs.declared.cause.Cause.{Cause}
 use Rattle.reply_laws.proofs.AreLogs.{length-logs, length-logs_of, some-logs, some-logs_of}
 use Rattle.reply_laws.specs.States.{StateHasGivenIds}
 use Rattle.reply_model.specs.DumpText.{dump_text}
-use Rattle.reply_model.specs.Replies.{AreLogsOf, Course, IsAnswered, IsQueryReply, IsReplyOn, IsTurn, dump_causes, edit_text, newest, text_unless}
+use Rattle.reply_model.specs.Replies.{Course, IsAnswered, IsQueryReply, IsTurn, dump_causes, edit_text, newest, text_unless}
 use Rattle.reply_model.specs.Spelling.{error_line, ok_line}
 use Rattle.request_model.specs.Requests.{Asked, Edit, Request, broken, edit, nothing, query, request}
 use Rattle.request_model.specs.States.{Answer, accepted, accepted_by, answer_by, answer_to, brings_tree, logs_of, logs_of_refused, refusal_of, refused, silent, state_after_edit}
@@ -133,7 +133,7 @@ pub turn-refused : (setting : Setting) (from to : Course) (asked : Asked) (own :
 unfolding IsTurn
 turn-refused setting from to asked own reply c is h =
     let answered : IsAnswered (refused c) setting from asked own reply to =
-      subst (λ (answer : Answer). IsAnswered answer setting from asked own reply to) is h in
+    subst (λ (answer : Answer). IsAnswered answer setting from asked own reply to) is h in
     answered.2
 
 query-stays : (cause : Option Cause) (setting : Setting) (from to : Course) (q : Query) (own : List Log) (reply : List ℕ)

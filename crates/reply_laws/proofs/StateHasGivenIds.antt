@@ -1,5 +1,5 @@
 -- The ids of what is loaded after a turn.
-use Rattle.std.proofs.Common.{List, None, Some, ap, subst, sym, ℕ, ◌≡◌}
+use Rattle.std.proofs.Common.{List, None, Some, subst, sym, ℕ, ◌≡◌}
 use Rattle.layout_model.specs.Setting.{Setting}
 use Rattle.page_laws.proofs.DocumentAfterInsert.{well-inserted, well-loaded}
 use Rattle.page_laws.proofs.DocumentAfterRemove.{well-removed}
