@@ -5,7 +5,7 @@ use Rattle.page_model.specs.Pages.{State}
 use Rattle.page_model.specs.declared.cause.Cause.{Cause}
 use Rattle.page_model.specs.declared.cause.Cause.TheVariants.{NotBuilt, NotLoaded}
 use Rattle.reply_laws.proofs.AreLogs.{cut-same}
-use Rattle.reply_laws.proofs.IsAnswered.{length-turn, turn-accepted, turn-one, turn-some}
+use Rattle.reply_laws.proofs.IsAnswered.{length-turn, turn-accepted, turn-dump, turn-one, turn-some}
 use Rattle.reply_laws.proofs.StateHasGivenIds.{given-turn}
 use Rattle.reply_laws.specs.Scripts.{IsEditThenDump}
 use Rattle.reply_laws.specs.States.{StateHasGivenIds}
@@ -76,17 +76,6 @@ loaded-after (Some page) (remove id) none = refl
 loaded-after None (insert parent index new) none = absurd (some-cause (not (is_plain new)) NotBuilt NotLoaded none)
 loaded-after None (remove id) none = absurd (cc)
 
--- a dump of what is loaded is not refused before its assignment is looked at
-dump-accepted : (s : State) → IsSome s → refusal_of s (query Dump) ≡ None
-unfolding refusal_of
-dump-accepted (Some page) some = refl
-dump-accepted None some = absurd (cc)
-
-dumped : (setting : Setting) (from to : Course) (own : List Log) (reply : List ℕ) → IsSome from.state
-    → IsTurn setting from (request (query Dump)) own reply to → IsQueryReply from.state setting from Dump own reply
-dumped setting from to own reply some turn =
-    (turn-accepted setting from to (query Dump) own reply (dump-accepted from.state some) turn).0
-
 pub edit-then-dump : (setting : Setting) (from : Course) (first second : List ℕ) (e : Edit) (logs : List Log) (text : List ℕ)
     → asked_of_line first ≡ request (edit e) → asked_of_line second ≡ request (query Dump)
     → refusal_of from.state (edit e) ≡ None → AreReplies setting from (first ∷ second ∷ []) logs text
@@ -110,5 +99,5 @@ edit-then-dump setting from first second e logs text one two none p =
       logs_are = s.logs_are ∙ ap (λ (rest : List Log). s.own ++ rest) (t.logs_are ∙ (ap (λ (rest : List Log). t.own ++ rest) p.1.1.0 ∙ append-nil t.own));
       text_is = s.text_is ∙ ap (λ (rest : List ℕ). s.reply ++ rest) (t.text_is ∙ (ap (λ (rest : List ℕ). t.reply ++ rest) p.1.1.1 ∙ append-nil t.reply));
       edited = edited;
-      dumped = subst (λ (state : State). IsQueryReply state setting s.to Dump t.own t.reply) edited.state (dumped setting s.to t.to t.own t.reply loaded dump_turn);
+      dumped = subst (λ (state : State). IsQueryReply state setting s.to Dump t.own t.reply) edited.state (turn-dump setting s.to t.to t.own t.reply loaded dump_turn);
     }

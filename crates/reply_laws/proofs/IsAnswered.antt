@@ -1,8 +1,8 @@
 -- What a line asks for has an answer, and by its logs there is one.
-use Rattle.std.proofs.Common.{List, None, Option, Some, [], ap, length, refl, subst, sym, ℕ, ◌++◌, ◌∷◌, ◌∙◌, ◌≡◌}
+use Rattle.std.proofs.Common.{IsSome, is_some, List, None, Option, Some, [], ap, length, refl, subst, sym, ℕ, ◌++◌, ◌∷◌, ◌∙◌, ◌≡◌}
 use Rattle.layout_laws.proofs.FlatAssignment.{some-consistent}
 use Rattle.layout_laws.proofs.Holds.{consistent-same}
-use Rattle.layout_model.specs.Consistent.{Assignment}
+use Rattle.layout_model.specs.Consistent.{Assignment, Consistent}
 use Rattle.layout_model.specs.Setting.{Setting}
 use Rattle.page_model.specs.Pages.{Page, State}
 use Rattle.page_model.specs.Refusals.{first_of}
@@ -10,7 +10,7 @@ use Rattle.page_model.specs.declared.cause.Cause.{Cause}
 use Rattle.reply_laws.proofs.AreLogs.{length-logs, length-logs_of, some-logs, some-logs_of}
 use Rattle.reply_laws.specs.States.{StateHasGivenIds}
 use Rattle.reply_model.specs.DumpText.{dump_text}
-use Rattle.reply_model.specs.Replies.{Course, IsAnswered, IsQueryReply, IsTurn, dump_causes, edit_text, newest, text_unless}
+use Rattle.reply_model.specs.Replies.{Course, IsAnswered, IsQueryReply, IsReplyOn, IsTurn, dump_causes, edit_text, newest, text_unless}
 use Rattle.reply_model.specs.Spelling.{error_line, ok_line}
 use Rattle.request_model.specs.Requests.{Asked, Edit, Request, broken, edit, nothing, query, request}
 use Rattle.request_model.specs.States.{Answer, accepted, accepted_by, answer_by, answer_to, brings_tree, logs_of, logs_of_refused, refusal_of, refused, silent, state_after_edit}
@@ -129,12 +129,12 @@ turn-some setting from asked given =
 -- ---- what an answer changes
 
 pub turn-refused : (setting : Setting) (from to : Course) (asked : Asked) (own : List Log) (reply : List ℕ) (c : Cause)
-    → answer_to from.state asked ≡ refused c → IsTurn setting from asked own reply to → to ≡ from
+    → answer_to from.state asked ≡ refused c → IsTurn setting from asked own reply to → (reply ≡ error_line c) × (to ≡ from)
 unfolding IsTurn
 turn-refused setting from to asked own reply c is h =
     let answered : IsAnswered (refused c) setting from asked own reply to =
     subst (λ (answer : Answer). IsAnswered answer setting from asked own reply to) is h in
-    answered.2
+    (answered.1, answered.2)
 
 query-stays : (cause : Option Cause) (setting : Setting) (from to : Course) (q : Query) (own : List Log) (reply : List ℕ)
     → IsAnswered (answer_by (query q) cause) setting from (request (query q)) own reply to → to ≡ from
@@ -153,6 +153,25 @@ pub turn-accepted : (setting : Setting) (from to : Course) (q : Request) (own : 
 unfolding IsTurn
 turn-accepted setting from to q own reply none h =
     subst (λ (cause : Option Cause). IsAnswered (answer_by q cause) setting from (request q) own reply to) none h
+
+-- a dump of what is loaded is not refused before its assignment is looked at
+dump-accepted : (s : State) → IsSome s → refusal_of s (query Dump) ≡ None
+unfolding refusal_of
+dump-accepted (Some page) some = refl
+dump-accepted None some = absurd (cc)
+
+pub turn-dump : (setting : Setting) (from to : Course) (own : List Log) (reply : List ℕ) → IsSome from.state
+    → IsTurn setting from (request (query Dump)) own reply to → IsQueryReply from.state setting from Dump own reply
+turn-dump setting from to own reply some turn =
+    (turn-accepted setting from to (query Dump) own reply (dump-accepted from.state some) turn).0
+
+pub turn-dump-text : (setting : Setting) (from to : Course) (page : Page) (a : Assignment) (own : List Log) (reply : List ℕ)
+    → from.state ≡ Some page → Consistent setting page a → IsTurn setting from (request (query Dump)) own reply to → reply ≡ dump_reply page a
+turn-dump-text setting from to page a own reply is consistent turn =
+    let reply_is : IsReplyOn page setting from Dump own reply =
+    subst (λ (s : State). IsQueryReply s setting from Dump own reply) is (turn-dump setting from to own reply (ap is_some is) turn) in
+    let same : reply_is.0 ≡ a = λ j i. consistent-same setting page reply_is.0 a reply_is.1 consistent i j in
+    reply_is.3 ∙ ap (dump_reply page) same
 
 -- ---- how many logs a line begins
 

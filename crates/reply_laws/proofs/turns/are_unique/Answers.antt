@@ -1,5 +1,5 @@
 use Rattle.reply_laws.proofs.IsAnswered.{turn-one}
-use Rattle.reply_laws.proofs.turns.have_one_reply.Goals as goal
+use Rattle.reply_laws.proofs.turns.are_unique.Goals as goal
 
 pub returns : goal.returns
 returns c = turn-one
