@@ -4,7 +4,7 @@ use Rattle.std.specs.Str.{bytes_eq}
 use Rattle.page_model.specs.Trees.{Tree, elem, characters, Trees, no_trees, tree, size}
 use Rattle.page_model.specs.Document.{Document, document}
 use Rattle.page_model.specs.Refusals.{Causes, first_of}
-use Rattle.page_model.specs.Edits.{load_refusals, insert_refusals, remove_refusals, after_insert, after_remove}
+use Rattle.page_model.specs.Edits.{load_causes, insert_causes, remove_causes, document_after_insert, document_after_remove}
 use Rattle.page_model.specs.Pages.{Page, State}
 use Rattle.page_model.specs.declared.limits.TheConstants.{MAX_SIDE}
 use Rattle.page_model.specs.declared.cause.Cause.{Cause}
@@ -45,9 +45,9 @@ needs_page (Some page) causes = causes page
 -- why an edit is refused, in the order in which this is asked
 abbrev pub edit_causes : State → Edit → Causes
 edit_causes s (load width height doc sheets) =
-    (nat_lt MAX_SIDE width || nat_lt MAX_SIDE height, ViewportRange) ∷ load_refusals doc
-edit_causes s (insert parent index new) = needs_page s (λ page. insert_refusals parent index new page.document)
-edit_causes s (remove id) = needs_page s (λ page. remove_refusals id page.document)
+    (nat_lt MAX_SIDE width || nat_lt MAX_SIDE height, ViewportRange) ∷ load_causes doc
+edit_causes s (insert parent index new) = needs_page s (λ page. insert_causes parent index new page.document)
+edit_causes s (remove id) = needs_page s (λ page. remove_causes id page.document)
 
 -- why a query is refused, whatever its assignment is
 abbrev pub query_causes : State → Query → Causes
@@ -71,8 +71,8 @@ with_document change page = record { document = change page.document; sheets = p
 abbrev pub state_after_edit : State → Edit → State
 state_after_edit s (load width height doc sheets) =
     Some (record { document = document doc; sheets = unwrap_or sheets []; viewport = record { width = width; height = height } })
-state_after_edit s (insert parent index new) = option_map (with_document (after_insert parent index new)) s
-state_after_edit s (remove id) = option_map (with_document (after_remove id)) s
+state_after_edit s (insert parent index new) = option_map (with_document (document_after_insert parent index new)) s
+state_after_edit s (remove id) = option_map (with_document (document_after_remove id)) s
 
 -- the id that the next new node gets
 abbrev pub next_id : State → ℕ

@@ -1,0 +1,6 @@
+pub mod AreLogs
+pub mod KeepsLimits
+pub mod StateHasGivenIds
+pub mod StateKeepsLimits
+pub mod IsAnswered
+pub mod AreReplies
