@@ -1,7 +1,7 @@
 -- The flat boxes are consistent, and their lines are the dump.
 use Rattle.std.proofs.Common.{eq-eqb, ◌≡◌, ◌∙◌, ap, sym, ap₂, refl, ℕ, List, [], ◌++◌, Option, Some, None, is_some, true, Result, Ok, Err, OnOk, encode_utf8_all}
 use Rattle.std.specs.Prelude.{ℤ, pos, ◌+ℤ◌}
-use Rattle.page_model.specs.Document.{Node, element, text, Nodes, no_nodes, node, id_of, kids_of, find, name_at, AreDistinct, ids}
+use Rattle.page_model.specs.Document.{Node, element, text, Nodes, no_nodes, node, id_of, children_of, find, name_at, AreDistinct, ids}
 use Rattle.page_model.specs.Pages.{Page}
 use Rattle.layout_model.specs.Setting.{Setting}
 use Rattle.layout_model.specs.Boxes.{units_of_pixels, viewport_block}

@@ -3,7 +3,7 @@ ghost use Rattle.std.specs.Prelude.{◌≡◌, [], unwrap_or, OnOk, OnErr, IfOk,
 ghost use Rattle.page_model.specs.Document.{find};
 ghost use Rattle.page_model.specs.Trees.{is_elem, size};
 ghost use Rattle.page_model.specs.Refusals.{first_of, IsRefusedBy};
-ghost use Rattle.page_model.specs.Edits.{insert_refusals, remove_refusals, after_insert, after_remove};
+ghost use Rattle.page_model.specs.Edits.{insert_causes, remove_causes, document_after_insert, document_after_remove};
 ghost use Rattle.page_model.specs.declared.refusal.Refusal.TheVariants.{NoNode as no_node};
 ghost use Rattle.request_model.specs.Requests.{load, insert, remove};
 ghost use Rattle.request_model.specs.States.{edit_causes, state_after_edit, accepted_by, with_document};
@@ -94,9 +94,9 @@ fn texts_or_none(alloc: Global, texts: Option<Seq<Text>>) -> Seq<Text>
 /// Inserts `tree` at `index` among the children of `parent`.
 fn apply_insert(page: &mut Page, parent: u64, index: u64, tree: &Tree) -> Result<Accepted, Refusal>
     ensures accepted { IfOk result (λ a. a ≡ record { first = page.old.document.next_id; count = size (shape tree.now) }) }
-    ensures page { OnOk result (page_view page.new ≡ with_document (after_insert parent index (shape tree.now)) (page_view page.old)) }
-    ensures allowed { OnOk result (first_of (insert_refusals parent index (shape tree.now) page.old.document) ≡ None) }
-    ensures refused { IfErr result (IsRefusedBy (insert_refusals parent index (shape tree.now) page.old.document)) }
+    ensures page { OnOk result (page_view page.new ≡ with_document (document_after_insert parent index (shape tree.now)) (page_view page.old)) }
+    ensures allowed { OnOk result (first_of (insert_causes parent index (shape tree.now) page.old.document) ≡ None) }
+    ensures refused { IfErr result (IsRefusedBy (insert_causes parent index (shape tree.now) page.old.document)) }
     ensures kept { OnErr result (page.new ≡ page.old) }
 {
     let parent = node_id(&page.document, parent)?;
@@ -109,9 +109,9 @@ fn apply_insert(page: &mut Page, parent: u64, index: u64, tree: &Tree) -> Result
 /// Removes the node `id` with all below it.
 fn apply_remove(page: &mut Page, id: u64) -> Result<Accepted, Refusal>
     ensures accepted { IfOk result (λ a. a ≡ record { first = 0; count = 0 }) }
-    ensures page { OnOk result (page_view page.new ≡ with_document (after_remove id) (page_view page.old)) }
-    ensures allowed { OnOk result (first_of (remove_refusals id page.old.document) ≡ None) }
-    ensures refused { IfErr result (IsRefusedBy (remove_refusals id page.old.document)) }
+    ensures page { OnOk result (page_view page.new ≡ with_document (document_after_remove id) (page_view page.old)) }
+    ensures allowed { OnOk result (first_of (remove_causes id page.old.document) ≡ None) }
+    ensures refused { IfErr result (IsRefusedBy (remove_causes id page.old.document)) }
     ensures kept { OnErr result (page.new ≡ page.old) }
 {
     let id = node_id(&page.document, id)?;
