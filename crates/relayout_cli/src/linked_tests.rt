@@ -67,6 +67,7 @@ fn expect(
     push: u64,
     status: Status,
     counts: (u64, u64),
+    faults: (u64, u64),
 ) -> Result<(), NoMemory> {
     let pushes = Rc::new(alloc, Cell::new(0))?;
     let mut source = Lines {
@@ -86,7 +87,7 @@ fn expect(
     assert_eq!(rt; given, status);
     assert!(rt; source.in_time);
     assert_eq!(rt; (source.pulls, pushes.get()), counts);
-    assert_eq!(rt; source.faults + sink.faults, 1);
+    assert_eq!(rt; (source.faults, sink.faults), faults);
     Ok(())
 }
 
@@ -94,8 +95,8 @@ fn expect(
 fn replies_come_before_the_next_line_and_nothing_after_a_fault(
     rt: HostRuntime,
 ) -> Result<(), Fail> {
-    expect(&rt, rt.alloc(), 7, 100, Status::ReadFault, (7, 3))?;
-    expect(&rt, rt.alloc(), 6, 100, Status::ReadFault, (6, 3))?;
-    expect(&rt, rt.alloc(), 100, 2, Status::WriteFault, (6, 3))?;
+    expect(&rt, rt.alloc(), 7, 100, Status::ReadFault, (7, 3), (1, 0))?;
+    expect(&rt, rt.alloc(), 6, 100, Status::ReadFault, (6, 3), (1, 0))?;
+    expect(&rt, rt.alloc(), 100, 2, Status::WriteFault, (6, 3), (0, 1))?;
     Ok(())
 }

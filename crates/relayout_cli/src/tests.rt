@@ -123,7 +123,7 @@ fn pieces_and_faults_end_a_run_with_their_status(rt: HostRuntime) -> Result<(), 
 }
 
 /// Scripts with their replies, a row for each behaviour.
-const ROWS: [(&[u8], &[u8]); 34] = [
+const ROWS: [(&[u8], &[u8]); 36] = [
     (b"", b""),
     (b"   \n\t\r\n\n", b""),
     (b"\x0c", b"error 1 bad-json\n"),
@@ -253,6 +253,49 @@ box 5 div 0 0 640 0 640 0
 box 3 div 0 0 640 0 640 0
 box 4 div 0 0 640 0 640 0
 box 6 div 0 0 640 0 640 0
+ok
+"#,
+    ),
+    // The script of the README.
+    (
+        br#"{"do":"dump"}
+{"do":"load","width":800,"height":600,"doc":["div",["div"],["div",["div"]]]}
+{"do":"dump"}
+{"do":"insert","parent":2,"index":1,"tree":["div"]}
+{"do":"remove","id":3}
+{"do":"remove","id":3}
+{"do":"load","width":800,"height":600,"doc":["p"]}"#,
+        br#"error 4 not-loaded
+ok 0 4
+box 0 div 0 0 51200 0 51200 0
+box 1 div 0 0 51200 0 51200 0
+box 2 div 0 0 51200 0 51200 0
+box 3 div 0 0 51200 0 51200 0
+ok
+ok 4 1
+ok
+error 5 no-node
+error 21 not-built
+"#,
+    ),
+    // The script of docs/protocol.md.
+    (
+        br#"{"do":"load","width":10,"height":20,"doc":["div",["div",{}]]}
+{"do":"insert","parent":0,"index":0,"tree":["div",["div"]]}
+{"do":"remove","id":2}
+{"do":"remove","id":3}
+{"do":"insert","parent":0,"index":1,"tree":["div"]}
+{"do":"insert","parent":0,"index":9,"tree":["div"]}
+{"do":"dump"}"#,
+        br#"ok 0 2
+ok 2 2
+ok
+error 5 no-node
+ok 4 1
+error 10 bad-index
+box 0 div 0 0 640 0 640 0
+box 1 div 0 0 640 0 640 0
+box 4 div 0 0 640 0 640 0
 ok
 "#,
     ),
