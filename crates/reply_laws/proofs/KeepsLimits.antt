@@ -50,16 +50,20 @@ some-there : (o : Option Text) → is_none o ≡ false → IsSome o
 some-there (Some x) h = refl
 some-there None h = absurd (cc)
 
-pub kept-inserted : (parent index : ℕ) (t : Tree) (d : Document) → HasGivenIds d → KeepsLimits d → first_of (insert_causes parent index t d) ≡ None
-    → KeepsLimits (document_after_insert parent index t d)
-kept-inserted parent index t d given keeps h =
+-- an insert that no cause refuses has a place
+pub place-of_insert : (parent index : ℕ) (t : Tree) (d : Document) → HasGivenIds d → first_of (insert_causes parent index t d) ≡ None → IsPlace parent index d
+place-of_insert parent index t d given h =
     let limits : Causes = tree_causes (taken_below parent d) t in
     let places : Causes = (nat_lt (child_count parent d.root) index, BadIndex) ∷ limits in
     let a = first-false (is_none (find parent d.root)) NoNode ((is_none (name_at parent d.root), NotElement) ∷ places) h in
     let b = first-false (is_none (name_at parent d.root)) NotElement places a.1 in
     let c = first-false (nat_lt (child_count parent d.root) index) BadIndex limits b.1 in
-    let place : IsPlace parent index d =
-    ((given, some-there (name_at parent d.root) b.0), ltb-false (child_count parent d.root) index c.0) in
+    ((given, some-there (name_at parent d.root) b.0), ltb-false (child_count parent d.root) index c.0)
+
+pub kept-inserted : (parent index : ℕ) (t : Tree) (d : Document) → HasGivenIds d → KeepsLimits d → first_of (insert_causes parent index t d) ≡ None
+    → KeepsLimits (document_after_insert parent index t d)
+kept-inserted parent index t d given keeps h =
+    let place : IsPlace parent index d = place-of_insert parent index t d given h in
     kept-limits (document_after_insert parent index t d) (sym (insert-refused parent index t d place keeps.grammar keeps.low) ∙ h)
 
 -- ---- less is left after a remove

@@ -1,5 +1,6 @@
 pub mod AreLogs
 pub mod KeepsLimits
+pub mod NewIds
 pub mod StateHasGivenIds
 pub mod StateKeepsLimits
 pub mod IsAnswered
