@@ -8,7 +8,7 @@ use Rattle.page_model.specs.declared.limits.TheConstants.{MAX_NODES, MAX_DEPTH, 
 use Rattle.page_model.specs.Refusals.{Causes, first_of}
 use Rattle.page_model.specs.declared.cause.Cause.{Cause}
 use Rattle.page_model.specs.declared.cause.Cause.TheVariants.{DepthLimit, NodeLimit, IdLimit}
-use Rattle.page_model.specs.Edits.{tree_refusals, load_refusals}
+use Rattle.page_model.specs.Edits.{tree_causes, load_causes}
 
 pub first-none : (b : Bool) (r : Cause) (rest : Causes) → first_of ((b, r) ∷ rest) ≡ None → (b ≡ false) × (first_of rest ≡ None)
 first-none true r rest h = absurd (none-some r (sym h))
@@ -26,7 +26,7 @@ pub record Fits (above live next : ℕ) (t : Tree) : Type 0 where
   pub few : live + size t ≤ MAX_NODES
   pub given : next + size t ≤ MAX_IDS
 
-pub fits : (above live next : ℕ) (t : Tree) → first_of (tree_refusals above live next t) ≡ None → Fits above live next t
+pub fits : (above live next : ℕ) (t : Tree) → first_of (tree_causes (record { level = above; nodes = live; ids = next; code_points = 0 }) t) ≡ None → Fits above live next t
 fits above live next t h =
     let three = three-none (nat_lt MAX_DEPTH (above + depth t)) (nat_lt MAX_NODES (live + size t)) (nat_lt MAX_IDS (next + size t)) DepthLimit NodeLimit IdLimit h in
     record {
@@ -36,5 +36,5 @@ fits above live next t h =
     }
 
 -- the same of a loaded tree
-pub fits_loaded : (t : Tree) → first_of (load_refusals t) ≡ None → (depth t ≤ MAX_DEPTH) × (size t ≤ MAX_NODES)
+pub fits_loaded : (t : Tree) → first_of (load_causes t) ≡ None → (depth t ≤ MAX_DEPTH) × (size t ≤ MAX_NODES)
 fits_loaded t h = let fit : Fits 0 0 0 t = fits 0 0 0 t h in (omega (arith, fit.low), omega (arith, fit.few))

@@ -1,7 +1,7 @@
 -- Nodes that are no longer live.
 use Rattle.std.proofs.Common.{◌≡◌, ℕ, suc, ◌+◌, ◌-◌, ◌≤◌, ◌<◌, drop, get_or, add-one, drop-cons, List, [], ◌∷◌, ◌++◌, length, slice_set, Option, Some, None, refl, sym, ap, ◌∙◌, subst, inl, inr, arith, length-set, length-append}
-use Rattle.page_model.specs.Document.{Node, element, text, Nodes, no_nodes, node, id_of, ids_of, kids_of, ids, all_ids, height, heights, IsAmong, AreDistinct}
-use Rattle.page_model.proofs.Members.{distinct-left, distinct-right, distinct-apart}
+use Rattle.page_model.specs.Document.{Node, element, text, Nodes, no_nodes, node, id_of, ids_of, children_of, ids, all_ids, height, heights, IsAmong, AreDistinct}
+use Rattle.dom_arena.proofs.Members.{distinct-left, distinct-right, distinct-apart}
 use Rattle.dom_arena.specs.declared.slot.Slot.{Slot}
 use Rattle.dom_arena.specs.Table.{slot_at, slot_of, kids_of_slot, Holds, HoldsAll}
 use Rattle.dom_arena.specs.Writes.{cleared, Clears}
@@ -101,29 +101,29 @@ clearing-done old new live count levels up ns kids e c = clears-end old new live
 
 -- ---- a node with all below it
 
-kids-held : (up : Option ℕ) (index : ℕ) (n : Node) (o : Option Slot) → o ≡ Some (slot_of up index n) → kids_of_slot o ≡ ids_of (kids_of n)
+kids-held : (up : Option ℕ) (index : ℕ) (n : Node) (o : Option Slot) → o ≡ Some (slot_of up index n) → kids_of_slot o ≡ ids_of (children_of n)
 kids-held up index (element id name attributes kids) o e = ap kids_of_slot e
 kids-held up index (text id cs) o e = ap kids_of_slot e
 
-clear-kids : (old : List (Option Slot)) (up : Option ℕ) (index : ℕ) (n : Node) → Holds old up index n → AreDistinct (ids n) → HoldsAll (slice_set old (id_of n) None) (id_of n) 0 (kids_of n)
+clear-kids : (old : List (Option Slot)) (up : Option ℕ) (index : ℕ) (n : Node) → Holds old up index n → AreDistinct (ids n) → HoldsAll (slice_set old (id_of n) None) (id_of n) 0 (children_of n)
 clear-kids old up index (element id name attributes kids) h d =
     HoldsAll-same old (slice_set old id None) id 0 kids (λ j b. slot_at-set_other old id j None (λ e. d.0 (subst (λ (m : ℕ). IsAmong m (all_ids kids)) e b))) h.1
 clear-kids old up index (text id cs) h d = tt
 
-distinct-kids : (n : Node) → AreDistinct (ids n) → AreDistinct (all_ids (kids_of n))
+distinct-kids : (n : Node) → AreDistinct (ids n) → AreDistinct (all_ids (children_of n))
 distinct-kids (element id name attributes kids) d = d.1
 distinct-kids (text id cs) d = tt
 
-heights-kids : (n : Node) (levels : ℕ) → height n ≤ levels → heights (kids_of n) ≤ levels - 1
+heights-kids : (n : Node) (levels : ℕ) → height n ≤ levels → heights (children_of n) ≤ levels - 1
 heights-kids (element id name attributes kids) levels l = omega (arith, l)
 heights-kids (text id cs) levels l = omega arith
 
-cleared-node : (n : Node) (slots : List (Option Slot)) → cleared (ids n) slots ≡ cleared (all_ids (kids_of n)) (slice_set slots (id_of n) None)
+cleared-node : (n : Node) (slots : List (Option Slot)) → cleared (ids n) slots ≡ cleared (all_ids (children_of n)) (slice_set slots (id_of n) None)
 unfolding cleared
 cleared-node (element id name attributes kids) slots = refl
 cleared-node (text id cs) slots = refl
 
-length-node : (n : Node) → length (ids n) ≡ 1 + length (all_ids (kids_of n))
+length-node : (n : Node) → length (ids n) ≡ 1 + length (all_ids (children_of n))
 length-node (element id name attributes kids) = omega arith
 length-node (text id cs) = omega arith
 
@@ -137,8 +137,8 @@ pub clear-node : (old cut new : List (Option Slot)) (live count count' id levels
     → (up : Option ℕ) (index : ℕ) (n : Node) → Holds old up index n → id_of n ≡ id → height n ≤ levels → AreDistinct (ids n) → Clears old new live count' (ids n)
 clear-node old cut new live count count' id levels kids cut_is kids_are less clear up index n h is l d =
     let cut_at : cut ≡ slice_set old (id_of n) None = cut_is ∙ ap (λ i. slice_set old i None) (sym is) in
-    let below : HoldsAll cut (id_of n) 0 (kids_of n) = subst (λ (s : List (Option Slot)). HoldsAll s (id_of n) 0 (kids_of n)) (sym cut_at) (clear-kids old up index n h d) in
-    let same : ids_of (kids_of n) ≡ kids = sym (kids_are ∙ (ap (λ i. kids_of_slot (slot_at old i)) (sym is) ∙ kids-held up index n (slot_at old (id_of n)) (Holds-top old up index n h))) in
-    let did : Clears cut new count count' (all_ids (kids_of n)) = clear (id_of n) 0 (kids_of n) below same (heights-kids n levels l) (distinct-kids n d) in
-    let long : length (ids n) ≡ 1 + length (all_ids (kids_of n)) = length-node n in
-    (did.0 ∙ (ap (cleared (all_ids (kids_of n))) cut_at ∙ sym (cleared-node n old)), omega (arith, did.1, less, long))
+    let below : HoldsAll cut (id_of n) 0 (children_of n) = subst (λ (s : List (Option Slot)). HoldsAll s (id_of n) 0 (children_of n)) (sym cut_at) (clear-kids old up index n h d) in
+    let same : ids_of (children_of n) ≡ kids = sym (kids_are ∙ (ap (λ i. kids_of_slot (slot_at old i)) (sym is) ∙ kids-held up index n (slot_at old (id_of n)) (Holds-top old up index n h))) in
+    let did : Clears cut new count count' (all_ids (children_of n)) = clear (id_of n) 0 (children_of n) below same (heights-kids n levels l) (distinct-kids n d) in
+    let long : length (ids n) ≡ 1 + length (all_ids (children_of n)) = length-node n in
+    (did.0 ∙ (ap (cleared (all_ids (children_of n))) cut_at ∙ sym (cleared-node n old)), omega (arith, did.1, less, long))

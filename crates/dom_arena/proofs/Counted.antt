@@ -5,8 +5,8 @@ use Rattle.std.proofs.lemmas.Bool.{false≢true}
 use Rattle.page_model.specs.Document.{Node, element, text, Nodes, no_nodes, node, find, height}
 use Rattle.page_model.specs.Edits.{level, level_in}
 use Rattle.page_model.specs.declared.limits.TheConstants.{MAX_DEPTH}
-use Rattle.page_model.proofs.Members.{or-found}
-use Rattle.page_model.proofs.Levels.{level-element, level-text, level-found, level-height}
+use Rattle.dom_arena.proofs.Members.{or-found}
+use Rattle.dom_arena.proofs.Levels.{level-element, level-text, level-found, level-height}
 use Rattle.dom_arena.specs.declared.slot.Slot.{Slot}
 use Rattle.dom_arena.specs.Table.{slot_at, slot_of, parent_in_slot, Holds, HoldsAll, IsTable}
 use Rattle.dom_arena.specs.Writes.{parents_above}

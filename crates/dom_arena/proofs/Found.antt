@@ -3,9 +3,9 @@ use Rattle.std.proofs.Common.{◌≡◌, ℕ, ◌==◌, List, ◌++◌, true, fa
 use Rattle.std.proofs.lemmas.Bool.{cases_Bool, eqb-true}
 use Rattle.std.proofs.lemmas.Option.{same_Some, none-some}
 use Rattle.page_model.specs.Trees.{Text, Attribute}
-use Rattle.page_model.specs.Document.{Node, element, text, Nodes, no_nodes, node, id_of, kids_of, ids, all_ids, find, find_in, or_else, IsAmong, AreDistinct}
-use Rattle.page_model.proofs.Members.{distinct-left, distinct-right, distinct-apart, find-among, find_in-among, if-found, or-found}
-use Rattle.page_model.proofs.Removed.{find-top}
+use Rattle.page_model.specs.Document.{Node, element, text, Nodes, no_nodes, node, id_of, children_of, ids, all_ids, find, find_in, or_else, IsAmong, AreDistinct}
+use Rattle.dom_arena.proofs.Members.{distinct-left, distinct-right, distinct-apart, find-among, find_in-among, if-found, or-found}
+use Rattle.dom_arena.proofs.Removed.{find-top}
 use Rattle.dom_arena.specs.Children.{AreFound}
 
 -- ---- each of these nodes is found in a list of nodes
@@ -50,22 +50,22 @@ found-each (node n ns) d =
 -- ---- the children of what is found
 
 mutual
-  pub find-kids : (i : ℕ) (root n : Node) → AreDistinct (ids root) → find i root ≡ Some n → AreFound root (kids_of n)
+  pub find-kids : (i : ℕ) (root n : Node) → AreDistinct (ids root) → find i root ≡ Some n → AreFound root (children_of n)
   find-kids i (element id name attributes kids) n d h =
       elim (if-found (i == id) (element id name attributes kids) n (find_in i kids) h) [
-        | inl e ↦ subst (λ (m : Node). AreFound (element id name attributes kids) (kids_of m)) (same_Some _ _ e.1) (found-kids id name attributes kids kids d.0 (found-each kids d.1))
-        | inr k ↦ found-kids id name attributes kids (kids_of n) d.0 (find_in-kids i kids n d.1 k.1)
+        | inl e ↦ subst (λ (m : Node). AreFound (element id name attributes kids) (children_of m)) (same_Some _ _ e.1) (found-kids id name attributes kids kids d.0 (found-each kids d.1))
+        | inr k ↦ found-kids id name attributes kids (children_of n) d.0 (find_in-kids i kids n d.1 k.1)
       ]
   find-kids i (text id cs) n d h =
       elim (if-found (i == id) (text id cs) n None h) [
-        | inl e ↦ subst (λ (m : Node). AreFound (text id cs) (kids_of m)) (same_Some _ _ e.1) tt
+        | inl e ↦ subst (λ (m : Node). AreFound (text id cs) (children_of m)) (same_Some _ _ e.1) tt
         | inr k ↦ absurd (none-some n k.1)
       ]
 
-  find_in-kids : (i : ℕ) (ns : Nodes) (n : Node) → AreDistinct (all_ids ns) → find_in i ns ≡ Some n → AreFoundIn ns (kids_of n)
+  find_in-kids : (i : ℕ) (ns : Nodes) (n : Node) → AreDistinct (all_ids ns) → find_in i ns ≡ Some n → AreFoundIn ns (children_of n)
   find_in-kids i no_nodes n d h = absurd (none-some n h)
   find_in-kids i (node m ms) n d h =
       elim (or-found (find i m) (find_in i ms) n h) [
-        | inl k ↦ found-head m ms (kids_of n) (find-kids i m n (distinct-left (ids m) (all_ids ms) d) k)
-        | inr k ↦ found-rest m ms (kids_of n) d (find_in-kids i ms n (distinct-right (ids m) (all_ids ms) d) k.1)
+        | inl k ↦ found-head m ms (children_of n) (find-kids i m n (distinct-left (ids m) (all_ids ms) d) k)
+        | inr k ↦ found-rest m ms (children_of n) d (find_in-kids i ms n (distinct-right (ids m) (all_ids ms) d) k.1)
       ]

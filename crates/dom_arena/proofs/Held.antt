@@ -2,13 +2,13 @@
 use Rattle.std.proofs.Common.{subst, ◌≡◌, ℕ, zero, suc, ◌+◌, ◌==◌, ◌||◌, List, [], ◌∷◌, true, false, Option, Some, None, option_map, is_some, IfSome, refl, sym, ap, ◌∙◌, inl, inr, arith, eqb-true}
 use Rattle.std.specs.List.{slice_get}
 use Rattle.std.proofs.lemmas.Bool.{cases_Bool, false≢true}
-use Rattle.page_model.specs.Document.{Node, element, text, Nodes, no_nodes, node, id_of, kids_of, ids_of, find, find_in, parent_in, parent_below, is_among, first, after, before}
+use Rattle.page_model.specs.Document.{Node, element, text, Nodes, no_nodes, node, id_of, children_of, ids_of, find, find_in, parent_in, parent_below, is_among, first, after, before}
 use Rattle.std.proofs.lemmas.Option.{same_Some, none-some}
-use Rattle.page_model.proofs.Members.{if-found, or-found}
+use Rattle.dom_arena.proofs.Members.{if-found, or-found}
 use Rattle.dom_arena.specs.declared.slot.Slot.{Slot}
 use Rattle.dom_arena.specs.declared.slot.Content.{Content}
 use Rattle.dom_arena.specs.Table.{slot_at, content_of, slot_of, Holds, HoldsAll, kids_at, preceding}
-use Rattle.page_model.proofs.Options.{is_some-or_else, is_some-if_some, or_or, IfSome-or_else, IfSome-if}
+use Rattle.dom_arena.proofs.Options.{is_some-or_else, is_some-if_some, or_or, IfSome-or_else, IfSome-if}
 
 -- ---- what is found
 
@@ -88,8 +88,8 @@ HoldsAll-kid slots i up from (node n ns) h e = elim (cases_Bool (i == id_of n)) 
 
 -- the slot with this number is that of a child of this node
 pub record IsChild (slots : List (Option Slot)) (i : ℕ) (p : Node) : Type 0 where
-  pub kid : IsKid slots i (id_of p) 0 (ids_of (kids_of p))
-  pub kids : kids_at slots (id_of p) ≡ ids_of (kids_of p)
+  pub kid : IsKid slots i (id_of p) 0 (ids_of (children_of p))
+  pub kids : kids_at slots (id_of p) ≡ ids_of (children_of p)
 
 mutual
   pub Holds-parent : (slots : List (Option Slot)) (up : Option ℕ) (index i : ℕ) (n : Node) → Holds slots up index n → IfSome (parent_in i n) (IsChild slots i)

@@ -2,7 +2,7 @@
 use Rattle.std.proofs.Common.{is_some, None, ◌≡◌, ℕ, suc, List, [], ◌∷◌, length, Option, Some, option_map, drop, get_or, ◌+◌, ◌<◌, ◌≤◌, drop-cons, add-one, arith, refl, sym, ap, ◌∙◌, subst, inl, inr, length-set}
 use Rattle.std.proofs.lemmas.List.{drop_all}
 use Rattle.page_model.specs.Document.{Node, element, text, Nodes, no_nodes, node, id_of, ids_of, ids, all_ids, IsAmong, AreDistinct}
-use Rattle.page_model.proofs.Members.{among-left, among-right, among-top, among-kids, distinct-left, distinct-right, distinct-apart}
+use Rattle.dom_arena.proofs.Members.{among-left, among-right, among-top, among-kids, distinct-left, distinct-right, distinct-apart}
 use Rattle.dom_arena.specs.declared.slot.Slot.{Slot}
 use Rattle.dom_arena.specs.Table.{slot_at, kids_at, Holds, HoldsAll}
 use Rattle.dom_arena.specs.Writes.{with_index, changed, indexed}

@@ -13,3 +13,11 @@ pub mod Grown
 pub mod Enlarged
 pub mod Shrunk
 pub mod Reduced
+pub mod Members
+pub mod Inserted
+pub mod Levels
+pub mod Numbered
+pub mod Options
+pub mod Parents
+pub mod Removed
+pub mod Spliced

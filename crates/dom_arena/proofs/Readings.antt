@@ -3,7 +3,7 @@ use Rattle.std.proofs.Common.{length, ◌≡◌, ℕ, suc, ◌+◌, ◌==◌, �
 use Rattle.std.specs.List.{slice_get}
 use Rattle.std.proofs.lemmas.Bool.{false≢true, eqb-true, cases_Bool}
 use Rattle.std.proofs.lemmas.Option.{same_Some, none-some}
-use Rattle.page_model.specs.Document.{Node, element, text, id_of, kids_of, ids_of, name_of, find, parent_in, first, after, before, first_child_of, next_of, prev_of, parent_of, name_at}
+use Rattle.page_model.specs.Document.{Node, element, text, id_of, children_of, ids_of, name_of, find, parent_in, first, after, before, first_child_of, next_of, prev_of, parent_of, name_at}
 use Rattle.page_model.specs.Edits.{child_count}
 use Rattle.dom_arena.specs.declared.slot.Slot.{Slot}
 use Rattle.dom_arena.specs.Table.{slot_at, content_of, IsTable, kids_in, kids_of_slot, kids_at, name_of_content, name_in, parent_in_slot, next_in, prev_in, preceding}
@@ -30,24 +30,24 @@ table-live slots root i t =
     is_some-option_map (λ (s : Slot). s.content) (slot_at slots i)
     ∙ (ap is_some (table-content slots root i t) ∙ sym (is_some-option_map content_of (find i root)))
 
-kids_in-content : (n : Node) → kids_in (content_of n) ≡ ids_of (kids_of n)
+kids_in-content : (n : Node) → kids_in (content_of n) ≡ ids_of (children_of n)
 kids_in-content (element id name attributes kids) = refl
 kids_in-content (text id cs) = refl
 
 kids-cases : (o : Option Node) (s : Option Slot) → option_map (λ (s : Slot). s.content) s ≡ option_map content_of o
-    → kids_of_slot s ≡ unwrap_or (option_map (λ n. ids_of (kids_of n)) o) []
+    → kids_of_slot s ≡ unwrap_or (option_map (λ n. ids_of (children_of n)) o) []
 kids-cases (Some n) (Some s) e = ap kids_in (same_Some _ _ e) ∙ kids_in-content n
 kids-cases None None e = refl
 kids-cases (Some n) None e = absurd (none-some _ e)
 kids-cases None (Some s) e = absurd (none-some _ (sym e))
 
-pub table-kids : (slots : List (Option Slot)) (root : Node) (i : ℕ) → IsTable slots root → kids_at slots i ≡ unwrap_or (option_map (λ n. ids_of (kids_of n)) (find i root)) []
+pub table-kids : (slots : List (Option Slot)) (root : Node) (i : ℕ) → IsTable slots root → kids_at slots i ≡ unwrap_or (option_map (λ n. ids_of (children_of n)) (find i root)) []
 table-kids slots root i t = kids-cases (find i root) (slot_at slots i) (table-content slots root i t)
 
 pub table-child_count : (slots : List (Option Slot)) (root : Node) (i : ℕ) → IsTable slots root → length (kids_at slots i) ≡ child_count i root
 table-child_count slots root i t = ap length (table-kids slots root i t)
 
-first-found : (o : Option Node) → first (unwrap_or (option_map (λ n. ids_of (kids_of n)) o) []) ≡ option_and_then (λ n. first (ids_of (kids_of n))) o
+first-found : (o : Option Node) → first (unwrap_or (option_map (λ n. ids_of (children_of n)) o) []) ≡ option_and_then (λ n. first (ids_of (children_of n))) o
 first-found None = refl
 first-found (Some n) = refl
 
@@ -96,9 +96,9 @@ next-parentless slots None e = refl
 next-parentless slots (Some s) e = ap (λ o. option_and_then (λ up. slice_get (kids_at slots up) (suc s.index)) o) e
 
 next-cases : (slots : List (Option Slot)) (i : ℕ) (o : Option Node) → IfSome o (IsChild slots i) → (is_some o ≡ false → parent_in_slot (slot_at slots i) ≡ None)
-    → next_in slots (slot_at slots i) ≡ option_and_then (λ p. after i (ids_of (kids_of p))) o
+    → next_in slots (slot_at slots i) ≡ option_and_then (λ p. after i (ids_of (children_of p))) o
 next-cases slots i (Some p) h k =
-    ap (next_in slots) h.kid.slot ∙ (ap (λ ks. slice_get ks (suc (0 + h.kid.at))) h.kids ∙ (ap (λ k. slice_get (ids_of (kids_of p)) (suc k)) (omega arith) ∙ sym h.kid.after))
+    ap (next_in slots) h.kid.slot ∙ (ap (λ ks. slice_get ks (suc (0 + h.kid.at))) h.kids ∙ (ap (λ k. slice_get (ids_of (children_of p)) (suc k)) (omega arith) ∙ sym h.kid.after))
 next-cases slots i None h k = next-parentless slots (slot_at slots i) (k refl)
 
 pub table-next : (slots : List (Option Slot)) (root : Node) (i : ℕ) → IsTable slots root → next_in slots (slot_at slots i) ≡ next_of i root
@@ -110,9 +110,9 @@ prev-parentless slots None e = refl
 prev-parentless slots (Some s) e = ap (λ o. option_and_then (λ up. preceding None (kids_at slots up) s.index) o) e
 
 prev-cases : (slots : List (Option Slot)) (i : ℕ) (o : Option Node) → IfSome o (IsChild slots i) → (is_some o ≡ false → parent_in_slot (slot_at slots i) ≡ None)
-    → prev_in slots (slot_at slots i) ≡ option_and_then (λ p. before i None (ids_of (kids_of p))) o
+    → prev_in slots (slot_at slots i) ≡ option_and_then (λ p. before i None (ids_of (children_of p))) o
 prev-cases slots i (Some p) h k =
-    ap (prev_in slots) h.kid.slot ∙ (ap (λ ks. preceding None ks (0 + h.kid.at)) h.kids ∙ (ap (λ k. preceding None (ids_of (kids_of p)) k) (omega arith) ∙ sym (h.kid.before None)))
+    ap (prev_in slots) h.kid.slot ∙ (ap (λ ks. preceding None ks (0 + h.kid.at)) h.kids ∙ (ap (λ k. preceding None (ids_of (children_of p)) k) (omega arith) ∙ sym (h.kid.before None)))
 prev-cases slots i None h k = prev-parentless slots (slot_at slots i) (k refl)
 
 pub table-prev : (slots : List (Option Slot)) (root : Node) (i : ℕ) → IsTable slots root → prev_in slots (slot_at slots i) ≡ prev_of i root

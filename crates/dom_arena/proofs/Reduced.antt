@@ -4,14 +4,14 @@ use Rattle.std.specs.List.{slice_get}
 use Rattle.std.proofs.lemmas.Bool.{cases_Bool, false≢true}
 use Rattle.std.proofs.lemmas.List.{drop_all, take_all}
 use Rattle.std.proofs.lemmas.Option.{same_Some, none-some, slice_get_within}
-use Rattle.page_model.specs.Document.{Document, Node, element, text, id_of, kids_of, ids_of, ids, all_ids, find, parent_in, height, node_count, IsAmong, AreDistinct}
-use Rattle.page_model.specs.Edits.{removed}
+use Rattle.page_model.specs.Document.{Document, Node, element, text, id_of, children_of, ids_of, ids, all_ids, find, parent_in, height, node_count, IsAmong, AreDistinct}
+use Rattle.page_model.specs.Edits.{tree_after_remove}
 use Rattle.page_model.specs.declared.limits.TheConstants.{MAX_DEPTH}
-use Rattle.page_model.proofs.Members.{among-top, among-find, find-among, find-part, find-distinct, among-kids, some-is}
-use Rattle.page_model.proofs.Parents.{kid-below, parent-part, parent-distinct, parent-find}
-use Rattle.page_model.proofs.Levels.{find-height}
-use Rattle.page_model.proofs.Removed.{id_of-removed, name_of-removed, ids-removed, removed-part, height-removed}
-use Rattle.page_model.proofs.Spliced.{Spliced, AreApart, spliced-length, spliced-rest, spliced-among, rest-distinct, part-apart}
+use Rattle.dom_arena.proofs.Members.{among-top, among-find, find-among, find-part, find-distinct, among-kids, some-is}
+use Rattle.dom_arena.proofs.Parents.{kid-below, parent-part, parent-distinct, parent-find}
+use Rattle.dom_arena.proofs.Levels.{find-height}
+use Rattle.dom_arena.proofs.Removed.{id_of-removed, name_of-removed, ids-removed, removed-part, height-removed}
+use Rattle.dom_arena.proofs.Spliced.{Spliced, AreApart, spliced-length, spliced-rest, spliced-among, rest-distinct, part-apart}
 use Rattle.dom_arena.specs.declared.slot.Slot.{Slot}
 use Rattle.dom_arena.specs.Table.{slot_at, slot_of, kids_of_slot, kids_at, parent_and_index_in, parent_in_slot, Holds, IsTable, tree_in}
 use Rattle.dom_arena.specs.Writes.{without_kid, changed, detached, cleared, Clears}
@@ -21,7 +21,7 @@ use Rattle.dom_arena.proofs.Indexed.{indexed-other, length-indexed, live-changed
 use Rattle.dom_arena.proofs.Cleared.{cleared-other, cleared-here, length-cleared}
 use Rattle.dom_arena.proofs.Held.{IsHeld, IsChild, Holds-top, Holds-parent, find-held, parent-held_at, find-parent}
 use Rattle.dom_arena.proofs.Readings.{parentless}
-use Rattle.page_model.proofs.Members.{find-id}
+use Rattle.dom_arena.proofs.Members.{find-id}
 use Rattle.dom_arena.proofs.Loaded.{tree_in-held}
 use Rattle.dom_arena.proofs.Grown.{among-drop}
 use Rattle.dom_arena.proofs.Shrunk.{slice_get-among, detached-list, shrunk-held, Holds-removed}
@@ -35,8 +35,8 @@ pub record MayRemove (i up at : ℕ) (slots : List (Option Slot)) (root : Node) 
   pub above : Node
   pub parent : parent_in i root ≡ Some above
   pub up_is : up ≡ id_of above
-  pub stands : slice_get (ids_of (kids_of above)) at ≡ Some i
-  pub kids : kids_at slots up ≡ ids_of (kids_of above)
+  pub stands : slice_get (ids_of (children_of above)) at ≡ Some i
+  pub kids : kids_at slots up ≡ ids_of (children_of above)
 
 spot-of : (o : Option Slot) (s : Slot) (up : ℕ) → o ≡ Some s → s.parent ≡ Some up → parent_and_index_in o ≡ Some (up, s.index)
 spot-of o s up e p = ap parent_and_index_in e ∙ ap (λ q. option_map (λ u. (u, s.index)) q) p
@@ -58,7 +58,7 @@ may-cases slots root x i up at (Some p) e h k f s =
       above = p;
       parent = sym e;
       up_is = up_is;
-      stands = ap (slice_get (ids_of (kids_of p))) (sym at_is) ∙ h.kid.here;
+      stands = ap (slice_get (ids_of (children_of p))) (sym at_is) ∙ h.kid.here;
       kids = ap (kids_at slots) up_is ∙ h.kids;
     }
 
@@ -115,7 +115,7 @@ live-reduced up at x slots j =
     live-indexed at (drop at (kids_at next up)) next j ∙ live-changed (without_kid at) up j cut
 
 -- a child is not its parent
-kid-not_top : (i : ℕ) (p : Node) → AreDistinct (ids p) → IsAmong i (ids_of (kids_of p)) → (i == id_of p) ≡ false
+kid-not_top : (i : ℕ) (p : Node) → AreDistinct (ids p) → IsAmong i (ids_of (children_of p)) → (i == id_of p) ≡ false
 kid-not_top i (element id name attributes kids) d a = elim (cases_Bool (i == id)) [
   | inl t ↦ absurd (d.0 (subst (λ (k : ℕ). IsAmong k (all_ids kids)) (eqb-true i id t) (among-kids i kids a)))
   | inr f ↦ f
@@ -123,46 +123,46 @@ kid-not_top i (element id name attributes kids) d a = elim (cases_Bool (i == id)
 kid-not_top i (text id cs) d a = absurd a
 
 -- the numbers of the node that goes are not those of the others below its parent
-apart-below : (i up at : ℕ) (slots : List (Option Slot)) (root : Node) → AreDistinct (ids root) → (may : MayRemove i up at slots root) → AreApart (ids may.node) (ids (removed i may.above))
+apart-below : (i up at : ℕ) (slots : List (Option Slot)) (root : Node) → AreDistinct (ids root) → (may : MayRemove i up at slots root) → AreApart (ids may.node) (ids (tree_after_remove i may.above))
 apart-below i up at slots root d may =
     let own : AreDistinct (ids may.above) = parent-distinct i root may.above may.parent d in
     let found : find i may.above ≡ Some may.node = sym (parent-find i root may.above d may.parent) ∙ may.found in
-    let ne : (i == id_of may.above) ≡ false = kid-not_top i may.above own (slice_get-among (ids_of (kids_of may.above)) at i may.stands) in
-    part-apart (ids may.above) (ids may.node) (ids (removed i may.above)) (ids-removed i may.above may.node own found ne) own
+    let ne : (i == id_of may.above) ≡ false = kid-not_top i may.above own (slice_get-among (ids_of (children_of may.above)) at i may.stands) in
+    part-apart (ids may.above) (ids may.node) (ids (tree_after_remove i may.above)) (ids-removed i may.above may.node own found ne) own
 
-top-stays : (i : ℕ) (p : Node) → IsAmong (id_of p) (ids (removed i p))
-top-stays i p = subst (λ (k : ℕ). IsAmong k (ids (removed i p))) (id_of-removed i p) (among-top (removed i p))
+top-stays : (i : ℕ) (p : Node) → IsAmong (id_of p) (ids (tree_after_remove i p))
+top-stays i p = subst (λ (k : ℕ). IsAmong k (ids (tree_after_remove i p))) (id_of-removed i p) (among-top (tree_after_remove i p))
 
-held-reduced : (slots : List (Option Slot)) (root : Node) (i up at : ℕ) → IsTable slots root → (may : MayRemove i up at slots root) → Holds (reduced up at may.node slots) None 0 (removed i root)
+held-reduced : (slots : List (Option Slot)) (root : Node) (i up at : ℕ) → IsTable slots root → (may : MayRemove i up at slots root) → Holds (reduced up at may.node slots) None 0 (tree_after_remove i root)
 held-reduced slots root i up at table may =
     let p : Node = may.above in
     let x : Node = may.node in
     let cut : List (Option Slot) = cleared (ids x) slots in
     let next : List (Option Slot) = changed (without_kid at) up cut in
     let own : AreDistinct (ids p) = parent-distinct i root p may.parent table.distinct in
-    let apart : AreApart (ids x) (ids (removed i p)) = apart-below i up at slots root table.distinct may in
-    let kept : AreSame slots cut (ids (removed i p)) = λ j a. cleared-other (ids x) slots j (λ b. apart j b a) in
-    let here : (up' : Option ℕ) (index : ℕ) → Holds slots up' index p → Holds (reduced up at x slots) up' index (removed i p) = λ up' index h.
-    subst (λ (q : ℕ). Holds (detached q at cut) up' index (removed i p)) (sym may.up_is) (shrunk-held slots cut up' index at i p h own may.stands kept) in
+    let apart : AreApart (ids x) (ids (tree_after_remove i p)) = apart-below i up at slots root table.distinct may in
+    let kept : AreSame slots cut (ids (tree_after_remove i p)) = λ j a. cleared-other (ids x) slots j (λ b. apart j b a) in
+    let here : (up' : Option ℕ) (index : ℕ) → Holds slots up' index p → Holds (reduced up at x slots) up' index (tree_after_remove i p) = λ up' index h.
+    subst (λ (q : ℕ). Holds (detached q at cut) up' index (tree_after_remove i p)) (sym may.up_is) (shrunk-held slots cut up' index at i p h own may.stands kept) in
     let at_parent : IsHeld slots p = parent-held_at slots None 0 i root p table.held may.parent in
-    let list : drop at (kids_at next up) ≡ drop at (ids_of (kids_of (removed i p))) =
-    subst (λ (q : ℕ). drop at (kids_at (changed (without_kid at) q cut) q) ≡ drop at (ids_of (kids_of (removed i p)))) (sym may.up_is)
+    let list : drop at (kids_at next up) ≡ drop at (ids_of (children_of (tree_after_remove i p))) =
+    subst (λ (q : ℕ). drop at (kids_at (changed (without_kid at) q cut) q) ≡ drop at (ids_of (children_of (tree_after_remove i p)))) (sym may.up_is)
     (detached-list slots cut at_parent.0 at_parent.1 at i p at_parent.2 own may.stands (kept (id_of p) (top-stays i p))) in
     let below : (j : ℕ) → IsAmong j (ids x) → IsAmong j (ids p) = λ j. find-part i p x j (sym (parent-find i root p table.distinct may.parent) ∙ may.found) in
     let same : (j : ℕ) → IsAmong j (ids root) → (IsAmong j (ids p) → ⊥) → slot_at (reduced up at x slots) j ≡ slot_at slots j = λ j a out.
     indexed-other at (drop at (kids_at next up)) next j
-    (λ b. out (removed-part i p j (kid-below j (removed i p) (among-drop j at (ids_of (kids_of (removed i p))) (subst (IsAmong j) list b)))))
+    (λ b. out (removed-part i p j (kid-below j (tree_after_remove i p) (among-drop j at (ids_of (children_of (tree_after_remove i p))) (subst (IsAmong j) list b)))))
     ∙ (slot_at-changed_other (without_kid at) up j cut (λ e. out (subst (λ (k : ℕ). IsAmong k (ids p)) (sym (e ∙ may.up_is)) (among-top p)))
     ∙ cleared-other (ids x) slots j (λ b. out (below j b))) in
     Holds-removed slots (reduced up at x slots) None 0 i root p table.distinct may.parent same here table.held
 
-spliced-root : (slots : List (Option Slot)) (root : Node) (i up at : ℕ) → IsTable slots root → (i == id_of root) ≡ false → (may : MayRemove i up at slots root) → Spliced (ids root) (ids may.node) (ids (removed i root))
+spliced-root : (slots : List (Option Slot)) (root : Node) (i up at : ℕ) → IsTable slots root → (i == id_of root) ≡ false → (may : MayRemove i up at slots root) → Spliced (ids root) (ids may.node) (ids (tree_after_remove i root))
 spliced-root slots root i up at table ne may = ids-removed i root may.node table.distinct may.found ne
 
-pub IsTable-reduced : (slots : List (Option Slot)) (root : Node) (i up at : ℕ) → IsTable slots root → (i == id_of root) ≡ false → (may : MayRemove i up at slots root) → IsTable (reduced up at may.node slots) (removed i root)
+pub IsTable-reduced : (slots : List (Option Slot)) (root : Node) (i up at : ℕ) → IsTable slots root → (i == id_of root) ≡ false → (may : MayRemove i up at slots root) → IsTable (reduced up at may.node slots) (tree_after_remove i root)
 IsTable-reduced slots root i up at table ne may =
     let x : Node = may.node in
-    let root' : Node = removed i root in
+    let root' : Node = tree_after_remove i root in
     let spliced : Spliced (ids root) (ids x) (ids root') = spliced-root slots root i up at table ne may in
     let long : length (reduced up at x slots) ≡ length slots = length-reduced up at x slots in
     let many : length (ids root) ≡ length (ids root') + length (ids x) = spliced-length (ids root) (ids x) (ids root') spliced in
@@ -180,7 +180,7 @@ IsTable-reduced slots root i up at table ne may =
             | inr b ↦ b
           ]);
       distinct = rest-distinct (ids root) (ids x) (ids root') spliced table.distinct;
-      numbered = λ j h. let low : j < length slots = table.numbered j (spliced-rest j (ids root) (ids x) (ids root') spliced h) in omega (arith, low, long);
+      with_ids = λ j h. let low : j < length slots = table.with_ids j (spliced-rest j (ids root) (ids x) (ids root') spliced h) in omega (arith, low, long);
       given = omega (arith, long, table.given);
       few = omega (arith, many, table.few);
       low = omega (arith, high, table.low);
@@ -188,14 +188,14 @@ IsTable-reduced slots root i up at table ne may =
 
 -- ---- the document
 
-pub tree_in-reduced : (slots : List (Option Slot)) (root : Node) (i up at : ℕ) → IsTable slots root → (i == id_of root) ≡ false → (may : MayRemove i up at slots root) → tree_in (reduced up at may.node slots) ≡ removed i root
+pub tree_in-reduced : (slots : List (Option Slot)) (root : Node) (i up at : ℕ) → IsTable slots root → (i == id_of root) ≡ false → (may : MayRemove i up at slots root) → tree_in (reduced up at may.node slots) ≡ tree_after_remove i root
 tree_in-reduced slots root i up at table ne may =
     let table' = IsTable-reduced slots root i up at table ne may in
-    tree_in-held (reduced up at may.node slots) (removed i root) table'.held table'.first table'.low
+    tree_in-held (reduced up at may.node slots) (tree_after_remove i root) table'.held table'.first table'.low
 
-pub count-reduced : (slots : List (Option Slot)) (root : Node) (i up at : ℕ) → IsTable slots root → (i == id_of root) ≡ false → (may : MayRemove i up at slots root) → node_count (removed i root) ≡ node_count root - length (ids may.node)
+pub count-reduced : (slots : List (Option Slot)) (root : Node) (i up at : ℕ) → IsTable slots root → (i == id_of root) ≡ false → (may : MayRemove i up at slots root) → node_count (tree_after_remove i root) ≡ node_count root - length (ids may.node)
 count-reduced slots root i up at table ne may =
-    let many : length (ids root) ≡ length (ids (removed i root)) + length (ids may.node) = spliced-length (ids root) (ids may.node) (ids (removed i root)) (spliced-root slots root i up at table ne may) in
+    let many : length (ids root) ≡ length (ids (tree_after_remove i root)) + length (ids may.node) = spliced-length (ids root) (ids may.node) (ids (tree_after_remove i root)) (spliced-root slots root i up at table ne may) in
     omega (arith, many)
 
 -- ---- what the code does
@@ -213,12 +213,12 @@ clear-spot slots now cut root i up at live live' is table may clear =
 pub detachable : (slots cut : List (Option Slot)) (root : Node) (i up at : ℕ) → IsTable slots root → (may : MayRemove i up at slots root) → cut ≡ cleared (ids may.node) slots → (up < length cut) × (at < length (kids_at cut up))
 detachable slots cut root i up at table may is =
     let above : IsAmong up (ids root) = subst (λ (k : ℕ). IsAmong k (ids root)) (sym may.up_is) (parent-part i root may.above (id_of may.above) may.parent (among-top may.above)) in
-    let low : up < length slots = table.numbered up above in
+    let low : up < length slots = table.with_ids up above in
     let long : length cut ≡ length slots = ap length is ∙ length-cleared (ids may.node) slots in
-    let out : IsAmong up (ids may.node) → ⊥ = λ b. apart-below i up at slots root table.distinct may up b (subst (λ (k : ℕ). IsAmong k (ids (removed i may.above))) (sym may.up_is) (top-stays i may.above)) in
-    let same : kids_at cut up ≡ ids_of (kids_of may.above) = ap (λ s. kids_at s up) is ∙ (ap kids_of_slot (cleared-other (ids may.node) slots up out) ∙ may.kids) in
-    let within : at < length (ids_of (kids_of may.above)) = slice_get_within (ids_of (kids_of may.above)) at i may.stands in
-    let many : length (kids_at cut up) ≡ length (ids_of (kids_of may.above)) = ap length same in (omega (arith, low, long), omega (arith, within, many))
+    let out : IsAmong up (ids may.node) → ⊥ = λ b. apart-below i up at slots root table.distinct may up b (subst (λ (k : ℕ). IsAmong k (ids (tree_after_remove i may.above))) (sym may.up_is) (top-stays i may.above)) in
+    let same : kids_at cut up ≡ ids_of (children_of may.above) = ap (λ s. kids_at s up) is ∙ (ap kids_of_slot (cleared-other (ids may.node) slots up out) ∙ may.kids) in
+    let within : at < length (ids_of (children_of may.above)) = slice_get_within (ids_of (children_of may.above)) at i may.stands in
+    let many : length (kids_at cut up) ≡ length (ids_of (children_of may.above)) = ap length same in (omega (arith, low, long), omega (arith, within, many))
 
 -- a live node whose slot names a parent can go
 pub may-remove_here : (slots read : List (Option Slot)) (d : Document) (i up at : ℕ) (o : Option (ℕ × ℕ)) → IsTable slots (tree_in slots) → ◌≡◌ {A = Document} (record { root = tree_in slots; next_id = length slots }) d
@@ -231,7 +231,7 @@ may-remove_here slots read d i up at o table view live is spot some =
 pub record IsReduced (i : ℕ) (slots slots' : List (Option Slot)) (count : ℕ) : Type 0 where
   pub table : IsTable slots' (tree_in slots')
   pub count_is : count ≡ node_count (tree_in slots')
-  pub tree : tree_in slots' ≡ removed i (tree_in slots)
+  pub tree : tree_in slots' ≡ tree_after_remove i (tree_in slots)
   pub long : length slots' ≡ length slots
 
 pub is_reduced : (slots cut slots' : List (Option Slot)) (i up at live live' : ℕ) → IsTable slots (tree_in slots) → live ≡ node_count (tree_in slots) → parent_and_index_in (slot_at slots i) ≡ Some (up, at)
@@ -240,10 +240,10 @@ is_reduced slots cut slots' i up at live live' table count spot may did is =
     let root : Node = tree_in slots in
     let ne : (i == id_of root) ≡ false = spotted-other slots root i up at table spot in
     let made : slots' ≡ reduced up at may.node slots = is ∙ ap (detached up at) did.0 in
-    let tree : tree_in slots' ≡ removed i root = ap tree_in made ∙ tree_in-reduced slots root i up at table ne may in
-    let fewer : node_count (removed i root) ≡ node_count root - length (ids may.node) = count-reduced slots root i up at table ne may in
+    let tree : tree_in slots' ≡ tree_after_remove i root = ap tree_in made ∙ tree_in-reduced slots root i up at table ne may in
+    let fewer : node_count (tree_after_remove i root) ≡ node_count root - length (ids may.node) = count-reduced slots root i up at table ne may in
     record {
-      table = subst (λ (n : Node). IsTable slots' n) (sym tree) (subst (λ (s : List (Option Slot)). IsTable s (removed i root)) (sym made) (IsTable-reduced slots root i up at table ne may));
+      table = subst (λ (n : Node). IsTable slots' n) (sym tree) (subst (λ (s : List (Option Slot)). IsTable s (tree_after_remove i root)) (sym made) (IsTable-reduced slots root i up at table ne may));
       count_is = did.1 ∙ (ap (λ k. k - length (ids may.node)) count ∙ (sym fewer ∙ sym (ap node_count tree)));
       tree = tree;
       long = ap length made ∙ length-reduced up at may.node slots;

@@ -1,7 +1,7 @@
 -- A table that is changed elsewhere still holds what it held.
 use Rattle.std.proofs.Common.{◌≡◌, ℕ, suc, List, Option, Some, refl, ◌∙◌, inl, inr}
 use Rattle.page_model.specs.Document.{Node, element, text, Nodes, no_nodes, node, ids, all_ids, IsAmong}
-use Rattle.page_model.proofs.Members.{among-left, among-right}
+use Rattle.dom_arena.proofs.Members.{among-left, among-right}
 use Rattle.dom_arena.specs.declared.slot.Slot.{Slot}
 use Rattle.dom_arena.specs.Table.{slot_at, Holds, HoldsAll}
 

@@ -109,7 +109,7 @@ pub record IsTable (slots : List (Option Slot)) (root : Node) : Type 0 where
   pub held : Holds slots None 0 root
   pub live : (i : ℕ) → is_some (slot_at slots i) ≡ true → is_some (find i root) ≡ true
   pub distinct : AreDistinct (ids root)
-  pub numbered : (i : ℕ) → IsAmong i (ids root) → i < length slots
+  pub with_ids : (i : ℕ) → IsAmong i (ids root) → i < length slots
   pub given : length slots ≤ MAX_IDS
   pub few : node_count root ≤ MAX_NODES
   pub low : height root ≤ MAX_DEPTH

@@ -2,7 +2,7 @@
 use Rattle.std.specs.Prelude.{◌≡◌, ◌-◌, length, ℕ, zero, suc, List, [], ◌∷◌, ◌++◌, Option, Some, None, option_map, unwrap_or, drop, slice_set}
 use Rattle.std.specs.List.{insert, remove}
 use Rattle.page_model.specs.Trees.{Tree}
-use Rattle.page_model.specs.Document.{numbered}
+use Rattle.page_model.specs.Document.{with_ids}
 use Rattle.dom_arena.specs.Rows.{rows}
 use Rattle.dom_arena.specs.declared.slot.Slot.{Slot}
 use Rattle.dom_arena.specs.declared.slot.Content.{Content}
@@ -45,7 +45,7 @@ attached parent at id slots = lined_up parent at (changed (with_kid at id) paren
 
 -- the slots with those of a new tree behind them, which is a child of this parent with so many before it
 abbrev pub enlarged : ℕ → ℕ → Tree → List (Option Slot) → List (Option Slot)
-enlarged parent at t slots = attached parent at (length slots) (slots ++ rows (Some parent) at (numbered (length slots) t))
+enlarged parent at t slots = attached parent at (length slots) (slots ++ rows (Some parent) at (with_ids (length slots) t))
 
 -- the slots where this parent has one child fewer, the one with so many before it
 abbrev pub detached : ℕ → ℕ → List (Option Slot) → List (Option Slot)

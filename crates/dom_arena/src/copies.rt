@@ -1,7 +1,7 @@
 //! Copying a tree into a table of slots.
 ghost use Rattle.std.specs.Prelude.{◌≡◌, ◌+◌, ◌≤◌, ◌++◌, length, map, IfOk, OnOk, OnErr};
 ghost use Rattle.page_model.specs.Trees.{elem, characters, size, sizes, trees_of};
-ghost use Rattle.page_model.specs.Document.{numbered, all_numbered, ids_of};
+ghost use Rattle.page_model.specs.Document.{with_ids, all_with_ids, ids_of};
 ghost use Rattle.page_model.specs.declared.limits.TheConstants.{MAX_IDS};
 ghost use Rattle.dom_arena.specs.Shape.{shape};
 ghost use Rattle.dom_arena.specs.Rows.{rows, all_rows, IsLonger};
@@ -41,7 +41,7 @@ pub fn append(
 ) -> Result<NodeId, NoMemory>
     requires room { length slots.old.items + size (shape tree.now) ≤ MAX_IDS }
     ensures number { IfOk result (λ id. id ≡ length slots.old.items) }
-    ensures copied { OnOk result (slots.new.items ≡ slots.old.items ++ rows parent index (numbered (length slots.old.items) (shape tree.now))) }
+    ensures copied { OnOk result (slots.new.items ≡ slots.old.items ++ rows parent index (with_ids (length slots.old.items) (shape tree.now))) }
     ensures longer { OnErr result (IsLonger slots.old.items slots.new.items) }
 {
     match tree {
@@ -67,7 +67,7 @@ fn append_text(
 ) -> Result<NodeId, NoMemory>
     requires room { length slots.old.items + 1 ≤ MAX_IDS }
     ensures number { IfOk result (λ id. id ≡ length slots.old.items) }
-    ensures copied { OnOk result (slots.new.items ≡ slots.old.items ++ rows parent index (numbered (length slots.old.items) (characters text.now))) }
+    ensures copied { OnOk result (slots.new.items ≡ slots.old.items ++ rows parent index (with_ids (length slots.old.items) (characters text.now))) }
     ensures longer { OnErr result (IsLonger slots.old.items slots.new.items) }
 {
     let id = slots.len() as NodeId;
@@ -93,7 +93,7 @@ fn append_element(
 ) -> Result<NodeId, NoMemory>
     requires room { length slots.old.items + size (elem name.now attributes.now (trees_of (map shape children.now))) ≤ MAX_IDS }
     ensures number { IfOk result (λ id. id ≡ length slots.old.items) }
-    ensures copied { OnOk result (slots.new.items ≡ slots.old.items ++ rows parent index (numbered (length slots.old.items) (elem name.now attributes.now (trees_of (map shape children.now))))) }
+    ensures copied { OnOk result (slots.new.items ≡ slots.old.items ++ rows parent index (with_ids (length slots.old.items) (elem name.now attributes.now (trees_of (map shape children.now))))) }
     ensures longer { OnErr result (IsLonger slots.old.items slots.new.items) }
 {
     let id = slots.len() as NodeId;
@@ -119,8 +119,8 @@ fn append_all(
     parent: NodeId,
 ) -> Result<ChildIds, NoMemory>
     requires room { length slots.old.items + sizes (trees_of (map shape children.now)) ≤ MAX_IDS }
-    ensures numbers { IfOk result (λ numbers. numbers ≡ ids_of (all_numbered (length slots.old.items) (trees_of (map shape children.now)))) }
-    ensures copied { OnOk result (slots.new.items ≡ slots.old.items ++ all_rows parent 0 (all_numbered (length slots.old.items) (trees_of (map shape children.now)))) }
+    ensures numbers { IfOk result (λ numbers. numbers ≡ ids_of (all_with_ids (length slots.old.items) (trees_of (map shape children.now)))) }
+    ensures copied { OnOk result (slots.new.items ≡ slots.old.items ++ all_rows parent 0 (all_with_ids (length slots.old.items) (trees_of (map shape children.now)))) }
     ensures longer { OnErr result (IsLonger slots.old.items slots.new.items) }
 {
     let mut numbers = ChildIds::new(alloc);

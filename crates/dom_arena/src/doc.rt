@@ -1,8 +1,8 @@
 ghost use Rattle.std.specs.Prelude.{◌≡◌, ◌≤◌, ◌<◌, ℕ, ◌↔◌, IsTrue, true, is_some, IsSome, IfOk, IfErr, OnOk, OnErr, ◌≢◌, unwrap_or, option_map, encode_utf8_all};
-ghost use Rattle.page_model.specs.Document.{Node, document, id_of, kids_of, name_of, find, parent_of, first_child_of, name_at, next_of, prev_of, AreDistinct, IsAmong, ids, height, node_count};
+ghost use Rattle.page_model.specs.Document.{Node, document, id_of, children_of, name_of, find, parent_of, first_child_of, name_at, next_of, prev_of, AreDistinct, IsAmong, ids, height, node_count};
 ghost use Rattle.page_model.specs.Trees.{is_elem, size, depth};
 ghost use Rattle.page_model.specs.declared.limits.TheConstants.{MAX_NODES, MAX_DEPTH, MAX_IDS};
-ghost use Rattle.page_model.specs.Edits.{load_refusals, after_insert, insert_refusals, after_remove, remove_refusals, child_count, level};
+ghost use Rattle.page_model.specs.Edits.{load_causes, document_after_insert, insert_causes, document_after_remove, remove_causes, child_count, level};
 ghost use Rattle.dom_arena.specs.Faults.{AnswersBy, ChecksBy};
 ghost use Rattle.page_model.specs.Document.{child_ids};
 ghost use Rattle.dom_arena.specs.Children.{AreFound};
@@ -56,7 +56,7 @@ impl Doc {
     pub fn new(alloc: Global, tree: &Tree) -> Result<Doc, DocFault>
         requires element { is_elem (shape tree.now) ≡ true }
         ensures document { IfOk result (λ doc. doc ≡ document (shape tree.now)) }
-        ensures causes { AnswersBy (load_refusals (shape tree.now)) result }
+        ensures causes { AnswersBy (load_causes (shape tree.now)) result }
     {
         limits::check(tree, 0, 0, 0)?;
         let mut slots = Vec::new(alloc);
@@ -113,7 +113,7 @@ impl Doc {
     /// The children of an element, in order. A text has none.
     pub fn children(&self, id: NodeId) -> Children<'_>
         ensures children { result ≡ child_ids id self.now.root }
-        ensures found { (n : Node) → find id self.now.root ≡ Some n → AreFound self.now.root (kids_of n) }
+        ensures found { (n : Node) → find id self.now.root ≡ Some n → AreFound self.now.root (children_of n) }
     {
         Children::over(table::children(self.slots.as_slice(), id))
     }
@@ -143,9 +143,9 @@ impl Doc {
     ///
     /// Refused with `NoNode`, `NotElement`, `BadIndex` where the element has fewer children than that, `DepthLimit`, `NodeLimit` or `IdLimit`, by the first that holds; then, and where memory runs out, nothing is changed. Its time is linear in the number of the parent's children and of new nodes.
     pub fn insert(&mut self, parent: NodeId, index: usize, tree: &Tree) -> Result<NodeId, DocFault>
-        ensures inserted { OnOk result (self.new ≡ after_insert parent index (shape tree.now) self.old) }
+        ensures inserted { OnOk result (self.new ≡ document_after_insert parent index (shape tree.now) self.old) }
         ensures number { IfOk result (λ id. id ≡ self.old.next_id) }
-        ensures causes { AnswersBy (insert_refusals parent index (shape tree.now) self.old) result }
+        ensures causes { AnswersBy (insert_causes parent index (shape tree.now) self.old) result }
         ensures kept { OnErr result (self.new ≡ self.old) }
     {
         self.may_insert(parent, index, tree)?;
@@ -157,7 +157,7 @@ impl Doc {
 
     /// Why an insert is refused, if it is.
     fn may_insert(&self, parent: NodeId, index: usize, tree: &Tree) -> Result<(), DocFault>
-        ensures { ChecksBy (insert_refusals parent index (shape tree.now) self.now) result }
+        ensures { ChecksBy (insert_causes parent index (shape tree.now) self.now) result }
     {
         if !self.is_live(parent) {
             return Err(DocFault::NoNode);
@@ -191,8 +191,8 @@ impl Doc {
     ///
     /// Refused with `NoNode`, and with `IsRoot` for the root; then nothing is changed. Its time is linear in the number of the parent's children and of the nodes that go.
     pub fn remove(&mut self, id: NodeId) -> Result<(), DocFault>
-        ensures removed { OnOk result (self.new ≡ after_remove id self.old) }
-        ensures causes { AnswersBy (remove_refusals id self.old) result }
+        ensures removed { OnOk result (self.new ≡ document_after_remove id self.old) }
+        ensures causes { AnswersBy (remove_causes id self.old) result }
         ensures without_memory { IfErr result (λ e. e ≢ DocFault.NoMemory) }
         ensures kept { OnErr result (self.new ≡ self.old) }
     {

@@ -2,7 +2,7 @@
 ghost use Rattle.std.specs.Prelude.{◌≡◌, ◌↔◌, ◌+◌, ◌≤◌, ◌<◌, IsTrue, MatchOption, map, min};
 ghost use Rattle.page_model.specs.Trees.{size, sizes, depth, depths, trees_of};
 ghost use Rattle.page_model.specs.declared.limits.TheConstants.{MAX_NODES, MAX_DEPTH, MAX_IDS};
-ghost use Rattle.page_model.specs.Edits.{tree_refusals};
+ghost use Rattle.page_model.specs.Edits.{tree_causes};
 ghost use Rattle.dom_arena.specs.Shape.{shape};
 ghost use Rattle.dom_arena.specs.Faults.{ChecksBy};
 
@@ -17,7 +17,8 @@ pub fn check(tree: &Tree, above: u32, live: u32, given: u32) -> Result<(), DocFa
     requires above { above ≤ MAX_DEPTH }
     requires live { live ≤ MAX_NODES }
     requires given { given ≤ MAX_IDS }
-    ensures { ChecksBy (tree_refusals above live given (shape tree.now)) result }
+    ensures { ChecksBy (tree_causes
+        (record { level = above; nodes = live; ids = given; code_points = 0 }) (shape tree.now)) result }
 {
     if !is_within(tree, MAX_DEPTH - above) {
         return Err(DocFault::DepthLimit);

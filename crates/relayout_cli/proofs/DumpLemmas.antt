@@ -37,7 +37,7 @@ mutual
   lines-flat : (width : ℤ) (root n : Node) → AreDistinct (ids root) → find (id_of n) root ≡ Some n → box_lines (flat_in width root) (pos 0) (pos 0) n ≡ box_lines (all_flat width) (pos 0) (pos 0) n
   lines-flat width root (element id name attributes kids) d f =
       rw f (ap (λ (lines : List ℕ). box_line id (encode_utf8_all name) (pos 0) (pos 0) (flat_box width) ++ lines)
-          (all-lines-flat width root kids d (find-kids id root (element id name attributes kids) d f)))
+      (all-lines-flat width root kids d (find-kids id root (element id name attributes kids) d f)))
   lines-flat width root (text id cs) d f = refl
 
   all-lines-flat : (width : ℤ) (root : Node) (ns : Nodes) → AreDistinct (ids root) → AreFound root ns → all_box_lines (flat_in width root) (pos 0) (pos 0) ns ≡ all_box_lines (all_flat width) (pos 0) (pos 0) ns

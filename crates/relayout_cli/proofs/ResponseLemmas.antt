@@ -132,11 +132,11 @@ response-edit page page' e reply built allowed after told = λ setting from at. 
   record { state = state_view page'; last = [] },
   at-turn setting from (record { state = state_view page'; last = [] }) (state_view page) (request (edit e)) ([] ∷ []) reply (accepted (edit e)) at
       (ap (answer_by (edit e)) (refusal-built (state_view page) (edit e) built ∙ allowed)) (record {
-          logs = ([], refl, ([], refl, refl));
-          text = told ∙ ap (λ (s : State). edit_text (brings_tree e) (accepted_by s e)) (sym at);
-          state = after ∙ ap (λ (s : State). state_after_edit s e) (sym at);
-          last = refl;
-        }),
+        logs = ([], refl, ([], refl, refl));
+        text = told ∙ ap (λ (s : State). edit_text (brings_tree e) (accepted_by s e)) (sym at);
+        state = after ∙ ap (λ (s : State). state_after_edit s e) (sym at);
+        last = refl;
+      }),
   refl,
 )
 

@@ -10,7 +10,7 @@ use Rattle.request_model.specs.Requests.{Asked, broken, asked_of_line}
 use Rattle.request_model.specs.States.{most_logs}
 use Rattle.layout_model.specs.Setting.{Setting}
 use Rattle.reply_model.specs.Replies.{Course, start, AreReplies, Replies, IsTurn}
-use Rattle.port_core.specs.Reader.{Reader, ahead, Gives, CountsFaults, IsFirstLine, EndsLine, HasNotFailed, work, fresh}
+use Rattle.port_core.specs.Reader.{Reader, ahead, Gives, CountsFaults, IsFirstLine, EndsLine, HasNotFailed, work, new_reader}
 use Rattle.port_core.specs.declared.reader.Line.{Line}
 use Rattle.port_core.specs.declared.reader.Line.TheVariants.{Whole, TooLong, End}
 use Rattle.port_core.proofs.StreamLemmas.{FromTo-joins, FromTo-weaker, Grew-joins, TakesCount-joins, TakesCount-none}
@@ -200,7 +200,7 @@ Told-more setting b n n' mid left' page page' stopped stopped' asked own reply t
     (λ all rest. (line : List ℕ) × IsFirstLine line stopped' all rest × (asked_of_line line ≡ asked))
     (λ all rest. FromTo b.sink.held n'.sink.held (Here setting page' stopped' b.ledger n'.ledger all rest))
     (λ all middle rest answered first. FromTo-joins b.sink.held n.sink.held n'.sink.held (Here setting page stopped b.ledger n.ledger all middle) (λ old new. new ≡ old ++ reply) (Here setting page' stopped' b.ledger n'.ledger all rest)
-        (here-more setting all middle rest first.0 reply own page page' stopped stopped' b.ledger n.ledger n'.ledger going first.1 (subst (λ (a : Asked). IsResponse a own reply page page') (sym first.2) response) log) answered push) told read
+    (here-more setting all middle rest first.0 reply own page page' stopped stopped' b.ledger n.ledger n'.ledger going first.1 (subst (λ (a : Asked). IsResponse a own reply page page') (sym first.2) response) log) answered push) told read
 
 -- all lines were answered
 answers-all : (setting : Setting) (b n : Outside) (all mid : List ℕ) (page : Option Page) (stopped : Option Line) → mid ≡ [] → (old new : List ℕ) → Here setting page stopped b.ledger n.ledger all mid old new → AnswersLines setting (run_of b n) (lines all) old new
@@ -243,7 +243,7 @@ Told-whole setting b n mid page stopped told going off =
     FromTo-joins b.source.left mid n.source.left (λ all rest. FromTo b.sink.held n.sink.held (Here setting page stopped b.ledger n.ledger all rest)) (λ all rest. (part : List ℕ) × IsUnbroken part × (all ≡ part ++ rest))
     (λ all rest. FromTo b.sink.held n.sink.held (λ old new. (taken : List ℕ) × (all ≡ taken ++ rest) × AnswersLines setting (run_of b n) (whole_lines taken) old new))
     (λ all middle rest answered broken. FromTo-weaker b.sink.held n.sink.held (Here setting page stopped b.ledger n.ledger all middle) (λ old new. (taken : List ℕ) × (all ≡ taken ++ rest) × AnswersLines setting (run_of b n) (whole_lines taken) old new)
-        (answers-whole setting b n all middle rest broken.0 page stopped going broken.1 broken.2) answered) told off
+    (answers-whole setting b n all middle rest broken.0 page stopped going broken.1 broken.2) answered) told off
 
 -- ---- long lines
 
@@ -428,7 +428,7 @@ pub record Serving (setting : Setting) (b n : Outside) (reader : Reader) (page :
   pub source : n.source.faults ≡ b.source.faults
   pub sink : n.sink.faults ≡ b.sink.faults
 
-pub Serving-start : (setting : Setting) (b : Outside) → Serving setting b b fresh None
+pub Serving-start : (setting : Setting) (b : Outside) → Serving setting b b new_reader None
 Serving-start setting b = record {
   going = inl refl;
   ended = λ e. absurd (cc);
@@ -560,7 +560,7 @@ pub ends-unanswered : (setting : Setting) (b n n' : Outside) (old new : Reader) 
 ends-unanswered setting b n n' old new page asked s next a turn =
     ends setting NoMemory (run_of b n') (λ e. absurd (cc)) (λ e. absurd (cc)) tt
     (Wrote-told setting NoMemory b n n' (ahead old.pending n.source.left) page old.stopped turn.0.begun (λ first text. refl) turn.1 turn.0.logged
-        (λ rest e. rw (first-asks (ahead old.pending n.source.left) (ahead new.pending n'.source.left) new.stopped asked rest next.line e) turn.0.few) s.told (Fronts-line (ahead old.pending n.source.left) n'.source.left new.pending new.stopped asked next.line))
+    (λ rest e. rw (first-asks (ahead old.pending n.source.left) (ahead new.pending n'.source.left) new.stopped asked rest next.line e) turn.0.few) s.told (Fronts-line (ahead old.pending n.source.left) n'.source.left new.pending new.stopped asked next.line))
     (LogsOnce-more b.ledger n.ledger n'.ledger turn.0.begun s.once turn.0.once turn.0.logged)
     (next.faults ∙ s.source, ap (λ (k : SinkState). k.faults) turn.1 ∙ s.sink) (taken-by setting NoMemory b n n' old new page s a a.bounded)
 

@@ -21,11 +21,7 @@ use request_model::Accepted;
 use std::alloc::Global;
 
 /// Carries out an edit, or returns why it is not carried out; then nothing is changed.
-pub fn apply(
-    alloc: Global,
-    state: &mut Option<Page>,
-    edit: Edit,
-) -> Result<Accepted, Refusal>
+pub fn apply(alloc: Global, state: &mut Option<Page>, edit: Edit) -> Result<Accepted, Refusal>
     requires root { HasRoot (edit_view edit) }
     ensures accepted { IfOk result (λ a. a ≡ accepted_by (state_view state.old) (edit_view edit)) }
     ensures state { OnOk result (state_view state.new ≡ state_after_edit (state_view state.old) (edit_view edit)) }
@@ -96,12 +92,7 @@ fn texts_or_none(alloc: Global, texts: Option<Seq<Text>>) -> Seq<Text>
 }
 
 /// Inserts `tree` at `index` among the children of `parent`.
-fn apply_insert(
-    page: &mut Page,
-    parent: u64,
-    index: u64,
-    tree: &Tree,
-) -> Result<Accepted, Refusal>
+fn apply_insert(page: &mut Page, parent: u64, index: u64, tree: &Tree) -> Result<Accepted, Refusal>
     ensures accepted { IfOk result (λ a. a ≡ record { first = page.old.document.next_id; count = size (shape tree.now) }) }
     ensures page { OnOk result (page_view page.new ≡ with_document (after_insert parent index (shape tree.now)) (page_view page.old)) }
     ensures allowed { OnOk result (first_of (insert_refusals parent index (shape tree.now) page.old.document) ≡ None) }

@@ -65,7 +65,11 @@ fn push_ok_nodes(reply: &mut String, accepted: Accepted) -> Result<(), NoMemory>
 }
 
 /// Appends the reply to an edit, with the ids of its nodes if it brought a tree.
-pub fn push_accepted(reply: &mut String, brings_tree: bool, accepted: Accepted) -> Result<(), NoMemory>
+pub fn push_accepted(
+    reply: &mut String,
+    brings_tree: bool,
+    accepted: Accepted,
+) -> Result<(), NoMemory>
     ensures line { OnOk result (string_bytes reply.new ≡ string_bytes reply.old ++ edit_text brings_tree accepted) }
     ensures room { OnErr result (string_capacity reply.old < string_len reply.old + 32) }
 {

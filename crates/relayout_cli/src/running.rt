@@ -19,16 +19,13 @@ pub fn run<I: Source, O: Sink, L: Drop>(
     steps: &mut Steps<L>,
 ) -> Status
     // With the words of the program: what is answered, written, logged and taken, and each cause.
-    ensures serves {
-        AreWords (map (λ w. string_bytes w) words.now) → Serves (setting_of 1) result (record {
-            before = record { source = I.seen source.old; sink = O.seen sink.old; ledger = steps.old };
-            after = record { source = I.seen source.new; sink = O.seen sink.new; ledger = steps.new } })
-    }
+    ensures serves { AreWords (map (λ w. string_bytes w) words.now) → Serves (setting_of 1) result (record {
+      before = record { source = I.seen source.old; sink = O.seen sink.old; ledger = steps.old };
+      after = record { source = I.seen source.new; sink = O.seen sink.new; ledger = steps.new };
+    }) }
     // With others: the usage, and what stays.
-    ensures usage {
-        (AreWords (map (λ w. string_bytes w) words.now) → ⊥)
-            → TellsUsage result (O.seen sink.old) (O.seen sink.new)
-    }
+    ensures usage { (AreWords (map (λ w. string_bytes w) words.now) → ⊥)
+        → TellsUsage result (O.seen sink.old) (O.seen sink.new) }
     ensures source_stays { (AreWords (map (λ w. string_bytes w) words.now) → ⊥) → source.new ≡ source.old }
     ensures steps_stay { (AreWords (map (λ w. string_bytes w) words.now) → ⊥) → steps.new ≡ steps.old }
 {

@@ -52,11 +52,10 @@ pub fn serve<I: Source, O: Sink, L: Drop>(
     steps: &mut Steps<L>,
 ) -> Status
     requires profile { profile ≡ 1 }
-    ensures serves {
-        Serves (setting_of profile) result (record {
-            before = record { source = I.seen source.old; sink = O.seen sink.old; ledger = steps.old };
-            after = record { source = I.seen source.new; sink = O.seen sink.new; ledger = steps.new } })
-    }
+    ensures serves { Serves (setting_of profile) result (record {
+      before = record { source = I.seen source.old; sink = O.seen sink.old; ledger = steps.old };
+      after = record { source = I.seen source.new; sink = O.seen sink.new; ledger = steps.new };
+    }) }
 {
     // Nothing is laid out by the profile yet.
     let _ = profile;
@@ -109,11 +108,9 @@ fn answer<O: Sink, L: Drop>(
     sink: &mut O,
     steps: &mut Steps<L>,
 ) -> Turn
-    ensures turns {
-        Turns result (asked_view asked) state.old state.new
-            (record { sink = O.seen sink.old; ledger = steps.old })
-            (record { sink = O.seen sink.new; ledger = steps.new })
-    }
+    ensures turns { Turns result (asked_view asked) state.old state.new
+        (record { sink = O.seen sink.old; ledger = steps.old })
+        (record { sink = O.seen sink.new; ledger = steps.new }) }
 {
     begin_log(&asked, steps);
     reply.clear();

@@ -1,6 +1,6 @@
 use Rattle.std.proofs.Common.{◌≡◌, ◌+◌, ◌<◌, ◌++◌, length, map, drop, sym, ◌∙◌, ap, rules, arith}
 use Rattle.page_model.specs.Trees.{Trees, tree, trees_of, size, sizes}
-use Rattle.page_model.specs.Document.{all_numbered, ids_of}
+use Rattle.page_model.specs.Document.{all_with_ids, ids_of}
 use Rattle.dom_arena.specs.Shape.{shape}
 use Rattle.dom_arena.specs.Rows.{all_rows, IsLonger}
 use Rattle.dom_arena.proofs.Rows.{element-copied, rest-more, length-more, copied-more, numbers-more, size-some, longer-rows, longer-trans}
@@ -22,9 +22,9 @@ append_all-loop-i-preserved t c =
       many = omega (arith, c.loop-i.invariant.many);
       room = omega (arith, c.loop-i.invariant.room);
       numbers = sym (numbers-more c.loop-i.slots.items c.append.new.slots.items c.loop-i.numbers _ c.args.parent c.loop-i.i _ (shape kid) rest c.in_ok-number.ensures.copied c.in_ok-number.ensures.number c.in_ok-push.ensures.pushed)
-          ∙ (ap (λ ts. c.loop-i.numbers ++ ids_of (all_numbered (length c.loop-i.slots.items) ts)) (sym split) ∙ c.loop-i.invariant.numbers);
+          ∙ (ap (λ ts. c.loop-i.numbers ++ ids_of (all_with_ids (length c.loop-i.slots.items) ts)) (sym split) ∙ c.loop-i.invariant.numbers);
       copied = sym (copied-more c.loop-i.slots.items c.append.new.slots.items c.args.parent c.loop-i.i (shape kid) rest c.in_ok-number.ensures.copied)
-          ∙ (ap (λ ts. c.loop-i.slots.items ++ all_rows c.args.parent c.loop-i.i (all_numbered (length c.loop-i.slots.items) ts)) (sym split) ∙ c.loop-i.invariant.copied);
+          ∙ (ap (λ ts. c.loop-i.slots.items ++ all_rows c.args.parent c.loop-i.i (all_with_ids (length c.loop-i.slots.items) ts)) (sym split) ∙ c.loop-i.invariant.copied);
       longer = longer-rows _ _ _ _ c.loop-i.invariant.longer c.in_ok-number.ensures.copied;
     }
 

@@ -1,5 +1,5 @@
 use Rattle.std.proofs.Common.{◌≡◌, Some, subst, rules}
-use Rattle.page_model.specs.Document.{Document, Node, find, kids_of}
+use Rattle.page_model.specs.Document.{Document, Node, find, children_of}
 use Rattle.page_model.specs.Document.{child_ids}
 use Rattle.dom_arena.specs.Children.{AreFound}
 use Rattle.dom_arena.specs.Table.{kids_at, tree_in}
@@ -15,5 +15,5 @@ returns-clause-children c =
 
 pub returns-clause-found : goal.returns-clause-found
 returns-clause-found c =
-    subst (λ (d : Document). (n : Node) → find c.args.id d.root ≡ Some n → AreFound d.root (kids_of n)) c.self.view_is
+    subst (λ (d : Document). (n : Node) → find c.args.id d.root ≡ Some n → AreFound d.root (children_of n)) c.self.view_is
     (λ n. find-kids c.args.id (tree_in c.self.inside.slots.items) n c.self.invariant.0.distinct)

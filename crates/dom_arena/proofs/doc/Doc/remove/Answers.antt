@@ -1,6 +1,6 @@
 use Rattle.std.proofs.Common.{◌≡◌, ◌==◌, List, true, Option, None, is_some, length, subst, sym, ap, ◌∙◌, rules}
 use Rattle.page_model.specs.Document.{Document, id_of, find, node_count}
-use Rattle.page_model.specs.Edits.{removed}
+use Rattle.page_model.specs.Edits.{tree_after_remove}
 use Rattle.dom_arena.specs.declared.slot.Slot.{Slot}
 use Rattle.dom_arena.specs.Table.{slot_at, parent_and_index_in, IsTable, tree_in}
 use Rattle.dom_arena.proofs.Reduced.{may-remove_here, spotless-root, clear-spot, detachable, is_reduced, written}
@@ -43,6 +43,6 @@ returns-clause-removed c =
     let did = clear-spot c.self.inside.slots.items _ c.clear.new.slots (tree_in c.self.inside.slots.items) c.args.id c.in-Some.parent c.in-Some.index c.self.inside.live c.clear.new.live c.as_mut_slice-slots.ensures.value c.self.invariant.0 may.1 c.clear.ensures in
     let done = is_reduced c.self.inside.slots.items c.clear.new.slots c.detach.new.slots c.args.id c.in-Some.parent c.in-Some.index c.self.inside.live c.clear.new.live c.self.invariant.0 c.self.invariant.1 may.0 may.1 did c.detach.ensures in
     let whole = written c.self.inside.slots.len c.detach.new.slots c.self.inside.slots.items (done.long ∙ sym c.self.inside.slots.ok.0) (sym c.self.inside.slots.ok.0) in
-    let root = ap tree_in whole ∙ (done.tree ∙ ap (λ (d : Document). removed c.args.id d.root) c.self.view_is) in
+    let root = ap tree_in whole ∙ (done.tree ∙ ap (λ (d : Document). tree_after_remove c.args.id d.root) c.self.view_is) in
     let next = ap length whole ∙ (done.long ∙ ap (λ (d : Document). d.next_id) c.self.view_is) in
     λ j. record { root = root j; next_id = next j }
