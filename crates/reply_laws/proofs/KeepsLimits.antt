@@ -1,27 +1,23 @@
 -- A document that an edit leaves breaks no limit.
-use Rattle.std.proofs.Common.{Bool, IsSome, List, None, Option, Some, [], ap, ap₂, arith, bytes_eq, codes, false, inl, inr, is_none, le-ltb, length, length-append, ltb-false, nat_lt, refl, sym, true, ℕ, ◌&&◌, ◌+◌, ◌++◌, ◌==◌, ◌||◌, ◌∙◌, ◌∷◌, ◌≡◌, ◌≤◌}
-use Rattle.std.proofs.lemmas.Bool.{cases_Bool, false≢true}
-use Rattle.std.proofs.lemmas.Slice.Eq.{bytes_eq-Decides}
+use Rattle.std.proofs.Common.{Bool, IsSome, List, None, Option, Some, [], ap, arith, false, inl, inr, is_none, length, length-append, ltb-false, nat_lt, refl, sym, true, ℕ, ◌==◌, ◌||◌, ◌∙◌, ◌∷◌, ◌≡◌, ◌≤◌}
+use Rattle.std.proofs.lemmas.Bool.{cases_Bool}
 use Rattle.page_laws.proofs.BrokenLimits.{grammar-limits, insert-refused, load-grammar, load-refused}
-use Rattle.page_laws.proofs.Options.{both-true, or-false}
+use Rattle.page_laws.proofs.Options.{or-false}
 use Rattle.page_laws.specs.ChildLists.{IsPlace}
 use Rattle.page_laws.specs.Ids.{HasGivenIds}
 use Rattle.page_laws.specs.Limits.{KeepsLimits, broken_grammar, broken_limits}
 use Rattle.page_model.specs.Document.{Document, Node, Nodes, all_ids, all_without_ids, document, element, find, height, heights, id_of, ids, name_at, no_nodes, node, node_count, text, without_ids}
-use Rattle.page_model.specs.Edits.{Taken, child_count, document_after_insert, document_after_remove, grammar_causes, insert_causes, load_causes, nodes_after_remove, nothing_taken, taken_below, tree_after_remove, tree_causes}
+use Rattle.page_model.specs.Edits.{child_count, document_after_insert, document_after_remove, insert_causes, load_causes, nodes_after_remove, nothing_taken, taken_below, tree_after_remove, tree_causes}
 use Rattle.page_model.specs.Refusals.{Causes, first_of}
-use Rattle.page_model.specs.Trees.{Attribute, Text, Tree, Trees, characters, elem, has_bad_name, has_long_text, has_many_attributes, has_node, have_node, is_badly_named, is_long, no_trees, text_size, text_sizes, tree, value_size}
+use Rattle.page_model.specs.Trees.{Attribute, Text, Tree, has_bad_name, has_long_text, has_many_attributes, has_node, have_node, is_badly_named, is_long, text_size, text_sizes}
 use Rattle.page_model.specs.declared.limits.TheConstants.{MAX_ATTRIBUTES, MAX_DEPTH, MAX_IDS, MAX_NODES, MAX_TEXTS}
-use Rattle.page_model.specs.declared.cause.Cause.{Cause}
 use Rattle.page_model.specs.declared.cause.Cause.TheVariants.{AttrLimit, BadIndex, BadName, DepthLimit, IdLimit, NoNode, NodeLimit, NotElement, TextLimit}
-use Rattle.request_model.specs.States.{are_plain, is_empty, is_plain}
+use Rattle.reply_laws.proofs.FirstOf.{both-false, first-false}
+use Rattle.reply_laws.proofs.IsPlain.{grammar-none}
+use Rattle.request_model.specs.States.{is_plain}
 use Rattle.std.specs.List.{list_any}
 
--- ---- where no cause holds
-
-pub first-false : (b : Bool) (c : Cause) (causes : Causes) → first_of ((b, c) ∷ causes) ≡ None → (b ≡ false) × (first_of causes ≡ None)
-first-false true c causes h = absurd (cc)
-first-false false c causes h = (refl, h)
+-- ---- where no limit is broken
 
 pub kept-limits : (d : Document) → first_of (broken_grammar d) ≡ None → first_of (broken_limits d) ≡ None → KeepsLimits d
 kept-limits d g h =
@@ -43,65 +39,6 @@ kept-limits d g h =
       few = ltb-false MAX_NODES (node_count d.root) many.0;
       given = ltb-false MAX_IDS d.next_id high.0;
     }
-
-both-false : (a b : Bool) → a ≡ false → b ≡ false → (a || b) ≡ false
-both-false false false h k = refl
-both-false true b h k = absurd (cc)
-both-false false true h k = absurd (cc)
-
--- ---- a tree of the form that is built keeps the limits on names, attributes and texts
-
-empty-nil : (attributes : List Attribute) → is_empty attributes ≡ true → attributes ≡ []
-empty-nil [] h = refl
-empty-nil (a ∷ attributes) h = absurd (cc)
-
--- the parts of a plain element
-plain-parts : (name : Text) (attributes : List Attribute) (children : Trees) → is_plain (elem name attributes children) ≡ true
-    → (name ≡ codes "div") × (attributes ≡ []) × (are_plain children ≡ true)
-plain-parts name attributes children h =
-    let a = both-true (bytes_eq name (codes "div")) (is_empty attributes && are_plain children) h in
-    let b = both-true (is_empty attributes) (are_plain children) a.1 in
-    ((bytes_eq-Decides name (codes "div")).0 a.0, empty-nil attributes b.0, b.1)
-
-mutual
-  plain-has_node : (e : Text → List Attribute → Bool) (c : Text → Bool) → e (codes "div") [] ≡ false → (t : Tree) → is_plain t ≡ true → has_node e c t ≡ false
-  plain-has_node e c none (elem name attributes children) h =
-      let parts = plain-parts name attributes children h in
-      both-false (e name attributes) (have_node e c children) (ap₂ e parts.0 parts.1 ∙ none) (plain-have_node e c none children parts.2)
-  plain-has_node e c none (characters cs) h = absurd (false≢true h)
-
-  plain-have_node : (e : Text → List Attribute → Bool) (c : Text → Bool) → e (codes "div") [] ≡ false → (ts : Trees) → are_plain ts ≡ true → have_node e c ts ≡ false
-  plain-have_node e c none no_trees h = refl
-  plain-have_node e c none (tree t ts) h =
-      let each = both-true (is_plain t) (are_plain ts) h in
-      both-false (has_node e c t) (have_node e c ts) (plain-has_node e c none t each.0) (plain-have_node e c none ts each.1)
-
-mutual
-  plain-text_size : (t : Tree) → is_plain t ≡ true → text_size t ≡ 0
-  plain-text_size (elem name attributes children) h =
-      let parts = plain-parts name attributes children h in
-      ap₂ (λ (x y : ℕ). x + y) (ap value_size parts.1) (plain-text_sizes children parts.2)
-  plain-text_size (characters cs) h = absurd (false≢true h)
-
-  plain-text_sizes : (ts : Trees) → are_plain ts ≡ true → text_sizes ts ≡ 0
-  plain-text_sizes no_trees h = refl
-  plain-text_sizes (tree t ts) h =
-      let each = both-true (is_plain t) (are_plain ts) h in
-      ap₂ (λ (x y : ℕ). x + y) (plain-text_size t each.0) (plain-text_sizes ts each.1)
-
-first-none : (b : Bool) (c : Cause) (causes : Causes) → b ≡ false → first_of causes ≡ None → first_of ((b, c) ∷ causes) ≡ None
-first-none false c causes h k = k
-first-none true c causes h k = absurd (cc)
-
-grammar-none : (taken : Taken) (t : Tree) → is_plain t ≡ true → taken.code_points ≤ MAX_TEXTS → first_of (grammar_causes taken t) ≡ None
-grammar-none taken t plain few =
-    let texts : Causes = (has_long_text t || nat_lt MAX_TEXTS (taken.code_points + text_size t), TextLimit) ∷ [] in
-    let long : has_long_text t ≡ false = plain-has_node (λ _ attributes. list_any (λ (a : Attribute). is_long a.1) attributes) is_long refl t plain in
-    let size : text_size t ≡ 0 = plain-text_size t plain in
-    let over : nat_lt MAX_TEXTS (taken.code_points + text_size t) ≡ false = le-ltb MAX_TEXTS (taken.code_points + text_size t) (omega (arith, size, few)) in
-    first-none (has_bad_name t) BadName ((has_many_attributes t, AttrLimit) ∷ texts) (plain-has_node is_badly_named (λ _. false) refl t plain)
-    (first-none (has_many_attributes t) AttrLimit texts (plain-has_node (λ _ attributes. nat_lt MAX_ATTRIBUTES (length attributes)) (λ _. false) refl t plain)
-    (first-none (has_long_text t || nat_lt MAX_TEXTS (taken.code_points + text_size t)) TextLimit [] (both-false (has_long_text t) (nat_lt MAX_TEXTS (taken.code_points + text_size t)) long over) refl))
 
 -- ---- after an edit that no cause refuses
 

@@ -1,4 +1,6 @@
 pub mod AreLogs
+pub mod FirstOf
+pub mod IsPlain
 pub mod KeepsLimits
 pub mod NewIds
 pub mod StateHasGivenIds

@@ -8,7 +8,8 @@ use Rattle.page_model.specs.Refusals.{Causes}
 use Rattle.page_model.specs.declared.limits.TheConstants.{MAX_SIDE}
 use Rattle.page_model.specs.declared.cause.Cause.{Cause}
 use Rattle.page_model.specs.declared.cause.Cause.TheVariants.{NotBuilt, ViewportRange}
-use Rattle.reply_laws.proofs.KeepsLimits.{first-false, kept-inserted, kept-loaded, kept-removed}
+use Rattle.reply_laws.proofs.FirstOf.{first-false}
+use Rattle.reply_laws.proofs.KeepsLimits.{kept-inserted, kept-loaded, kept-removed}
 use Rattle.reply_laws.specs.States.{StateHasGivenIds, StateKeepsLimits}
 use Rattle.reply_model.specs.Replies.{Course, IsAnswered, IsTurn}
 use Rattle.request_model.specs.Requests.{Asked, Edit, Request, broken, edit, insert, load, nothing, query, remove, request}
