@@ -1,5 +1,8 @@
 pub mod AreLogs
+pub mod FirstOf
+pub mod IsPlain
 pub mod KeepsLimits
+pub mod NewIds
 pub mod StateHasGivenIds
 pub mod StateKeepsLimits
 pub mod IsAnswered

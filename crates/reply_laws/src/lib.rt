@@ -2,5 +2,6 @@
 #![tactic(auto)]
 
 pub mod courses;
+pub mod edits;
 pub mod scripts;
 pub mod turns;
