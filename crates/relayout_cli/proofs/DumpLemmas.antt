@@ -1,11 +1,11 @@
 -- The flat boxes are consistent, and their lines are the dump.
-use Rattle.std.proofs.Common.{eq-eqb, ◌≡◌, ◌∙◌, ap, sym, ap₂, refl, ℕ, List, [], ◌++◌, Option, Some, None, is_some, true, Result, Ok, Err, OnOk, encode_utf8_all}
-use Rattle.std.specs.Prelude.{ℤ, pos, ◌+ℤ◌}
-use Rattle.page_model.specs.Document.{Node, element, text, Nodes, no_nodes, node, id_of, children_of, find, name_at, AreDistinct, ids}
+use Rattle.std.proofs.Common.{eq-eqb, ◌≡◌, ◌∙◌, ap, sym, ap₂, refl, ℕ, List, [], ◌++◌, Some, is_some, true, Result, Ok, Err, OnOk, encode_utf8_all}
+use Rattle.std.specs.Prelude.{ℤ, pos}
+use Rattle.page_model.specs.Document.{Node, element, text, Nodes, no_nodes, node, id_of, find, name_at, AreDistinct, ids}
 use Rattle.page_model.specs.Pages.{Page}
 use Rattle.layout_model.specs.Setting.{Setting}
-use Rattle.layout_model.specs.Boxes.{units_of_pixels, viewport_block}
-use Rattle.layout_model.specs.Consistent.{Assignment, Holds, AllHold, Consistent}
+use Rattle.layout_model.specs.Boxes.{units_of_pixels}
+use Rattle.layout_model.specs.Consistent.{Holds, AllHold, Consistent}
 use Rattle.reply_model.specs.DumpText.{box_line, box_lines, all_box_lines}
 use Rattle.reply_model.specs.Spelling.{ok_line}
 use Rattle.dom_arena.specs.Children.{AreFound}

@@ -2,7 +2,7 @@
 use Rattle.std.proofs.Common.{◌≡◌, ◌∙◌, sym, ap, subst, refl, ℕ, zero, suc, List, [], ◌∷◌, ◌++◌, Bool, true, false, not, inl, inr, Option, Some, None, Result, Ok, Err, OnOk, is_none}
 use Rattle.std.proofs.lemmas.Bool.{false≢true}
 use Rattle.stream_model.specs.Ledger.{Log}
-use Rattle.page_model.specs.Pages.{Page, State}
+use Rattle.page_model.specs.Pages.{State}
 use Rattle.page_model.specs.Trees.{Tree, elem, characters, is_elem}
 use Rattle.page_model.specs.Refusals.{Causes, first_of, cause_of, IsFirstCause, IsRefusedBy}
 use Rattle.page_model.specs.declared.cause.Cause.{Cause}
@@ -18,7 +18,7 @@ use Rattle.reply_model.specs.Spelling.{error_line}
 use Rattle.reply_model.specs.Replies.{Course, IsTurn, IsAnswered, IsQueryReply, AreLogs, edit_text}
 use Rattle.dom_arena.specs.Faults.{AnswersBy, refusal_of_fault, cause_in}
 use Rattle.dom_arena.specs.declared.fault.DocFault.{DocFault}
-use Rattle.relayout_cli.specs.Pages.{IsAt, page_view, state_view}
+use Rattle.relayout_cli.specs.Pages.{page_view, state_view}
 use Rattle.relayout_cli.specs.declared.page.Page.{Page as KeptPage}
 use Rattle.relayout_cli.specs.inner.Turns.{IsResponse, empty_logs}
 use Rattle.relayout_cli.specs.inner.Dumps.{IsDumpOf}

@@ -1,5 +1,5 @@
 -- How a script is answered line by line.
-use Rattle.std.proofs.Common.{◌≤◌, take, length-append, inl, inr, ◌⊎◌, ◌≡◌, ◌∙◌, sym, ap, refl, subst, ℕ, zero, suc, ◌<◌, ◌+◌, ◌-◌, List, [], ◌∷◌, ◌++◌, length, Bool, true, false, Option, Some, None, IfNone, IfSome, append_assoc, append-nil, arith}
+use Rattle.std.proofs.Common.{◌≤◌, take, length-append, inl, inr, ◌≡◌, ◌∙◌, sym, ap, refl, subst, ℕ, zero, suc, ◌<◌, ◌+◌, ◌-◌, List, [], ◌∷◌, ◌++◌, length, Option, Some, None, IfNone, IfSome, append_assoc, append-nil, arith}
 use Rattle.std.proofs.lemmas.Bool.{lt-ltb}
 use Rattle.stream_model.specs.Streams.{SourceState, SinkState, FromTo, Appends, AppendsPart, CountsFault, Grew, TakesCount, NothingLeft}
 use Rattle.stream_model.specs.Lines.{newline, lines, whole_lines, IsUnbroken}
@@ -9,8 +9,8 @@ use Rattle.page_model.specs.declared.cause.Cause.TheVariants.{LineTooLong}
 use Rattle.request_model.specs.Requests.{Asked, broken, asked_of_line}
 use Rattle.request_model.specs.States.{most_logs}
 use Rattle.layout_model.specs.Setting.{Setting}
-use Rattle.reply_model.specs.Replies.{Course, start, AreReplies, Replies, IsTurn}
-use Rattle.port_core.specs.Reader.{Reader, ahead, Gives, CountsFaults, IsFirstLine, EndsLine, HasNotFailed, work, new_reader}
+use Rattle.reply_model.specs.Replies.{Course, start, AreReplies, IsTurn}
+use Rattle.port_core.specs.Reader.{Reader, ahead, Gives, CountsFaults, IsFirstLine, EndsLine, HasNotFailed, new_reader}
 use Rattle.port_core.specs.declared.reader.Line.{Line}
 use Rattle.port_core.specs.declared.reader.Line.TheVariants.{Whole, TooLong, End}
 use Rattle.port_core.proofs.StreamLemmas.{FromTo-joins, FromTo-weaker, Grew-joins, TakesCount-joins, TakesCount-none}

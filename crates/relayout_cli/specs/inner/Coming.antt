@@ -1,5 +1,5 @@
 -- What reading the next line gives and leaves.
-use Rattle.std.specs.Prelude.{◌≡◌, ℕ, ◌-◌, ◌<◌, ◌≤◌, List, [], ◌++◌, Option, Some, None}
+use Rattle.std.specs.Prelude.{◌≡◌, ℕ, ◌-◌, ◌<◌, ◌≤◌, List, [], ◌++◌, Some, None}
 use Rattle.stream_model.specs.Streams.{SourceState, FromTo, CountsFault, Grew, TakesCount, NothingLeft}
 use Rattle.stream_model.specs.Lines.{IsUnbroken}
 use Rattle.stream_model.specs.declared.limits.TheConstants.{MAX_TAKEN}

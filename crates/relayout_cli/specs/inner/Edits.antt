@@ -1,8 +1,6 @@
 -- What carrying out a request answers.
-use Rattle.std.specs.Prelude.{◌≡◌, ℕ, true, Option, Result, Ok, Err}
+use Rattle.std.specs.Prelude.{◌≡◌, true}
 use Rattle.page_model.specs.Trees.{is_elem}
-use Rattle.page_model.specs.Refusals.{Causes, first_of, IsRefusedBy}
-use Rattle.page_model.specs.declared.refusal.Refusal.{Refusal}
 use Rattle.request_model.specs.Requests.{Edit, load, insert, remove}
 
 -- the document of a load is an element

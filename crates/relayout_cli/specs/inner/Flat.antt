@@ -1,8 +1,8 @@
 -- The boxes of a page of plain blocks.
-use Rattle.std.specs.Prelude.{ℕ, ℤ, pos, is_some, Option, Some, None, if◌then◌else◌}
+use Rattle.std.specs.Prelude.{ℤ, pos, is_some, Some, None, if◌then◌else◌}
 use Rattle.page_model.specs.Document.{Node, name_at}
 use Rattle.layout_model.specs.Boxes.{Box}
-use Rattle.layout_model.specs.Consistent.{Entry, Assignment}
+use Rattle.layout_model.specs.Consistent.{Assignment}
 
 -- a block of this width without height, at the corner of its containing block
 abbrev pub flat_box : ℤ → Box

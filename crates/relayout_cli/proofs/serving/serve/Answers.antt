@@ -1,4 +1,4 @@
-use Rattle.relayout_cli.specs.Runs.{Outside, setting_of}
+use Rattle.relayout_cli.specs.Runs.{setting_of}
 use Rattle.relayout_requests.specs.Views.{asked_view}
 use Rattle.relayout_cli.proofs.ServeLemmas.{Serving-start, Serving-more, ends-new, ends-done, ends-failed, ends-spent, ends-unread, ends-cut, ends-unanswered}
 use Rattle.relayout_cli.proofs.serving.serve.Goals as goal
