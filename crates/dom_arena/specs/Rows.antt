@@ -7,7 +7,8 @@ use Rattle.dom_arena.specs.Table.{slot_of}
 -- the slots of a node, which has this parent and this index among its children, and of all nodes below it
 abbrev mutual
   pub rows : Option ℕ → ℕ → Node → List (Option Slot)
-  rows up index (element id name attributes kids) = Some (slot_of up index (element id name attributes kids)) ∷ all_rows id 0 kids
+  rows up index (element id name attributes kids) =
+      Some (slot_of up index (element id name attributes kids)) ∷ all_rows id 0 kids
   rows up index (text id cs) = Some (slot_of up index (text id cs)) ∷ []
 
   -- the slots of these nodes, children of this parent from this index on

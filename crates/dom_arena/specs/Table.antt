@@ -52,11 +52,13 @@ preceding last xs (suc k) = slice_get xs k
 
 -- the sibling after the node in a slot, by its parent's slot
 abbrev pub next_in : List (Option Slot) → Option Slot → Option ℕ
-next_in slots o = option_and_then (λ (s : Slot). option_and_then (λ up. slice_get (kids_at slots up) (suc s.index)) s.parent) o
+next_in slots o = option_and_then (λ (s : Slot). option_and_then (λ up. slice_get (kids_at slots up)
+    (suc s.index)) s.parent) o
 
 -- the same of the sibling before
 abbrev pub prev_in : List (Option Slot) → Option Slot → Option ℕ
-prev_in slots o = option_and_then (λ (s : Slot). option_and_then (λ up. preceding None (kids_at slots up) s.index) s.parent) o
+prev_in slots o = option_and_then (λ (s : Slot). option_and_then
+    (λ up. preceding None (kids_at slots up) s.index) s.parent) o
 
 -- ---- the tree that a table is
 
@@ -94,7 +96,8 @@ slot_of up index n = record { parent = up; index = index; content = content_of n
 abbrev mutual
   pub Holds : List (Option Slot) → Option ℕ → ℕ → Node → Type 0
   Holds slots up index (element id name attributes kids) =
-      (slot_at slots id ≡ Some (slot_of up index (element id name attributes kids))) × HoldsAll slots id 0 kids
+      (slot_at slots id ≡ Some (slot_of up index (element id name attributes kids)))
+      × HoldsAll slots id 0 kids
   Holds slots up index (text id cs) = slot_at slots id ≡ Some (slot_of up index (text id cs))
 
   -- the slots hold these nodes, children of this parent from this index on

@@ -45,7 +45,8 @@ attached parent at id slots = lined_up parent at (changed (with_kid at id) paren
 
 -- the slots with those of a new tree behind them, which is a child of this parent with so many before it
 abbrev pub enlarged : ℕ → ℕ → Tree → List (Option Slot) → List (Option Slot)
-enlarged parent at t slots = attached parent at (length slots) (slots ++ rows (Some parent) at (with_ids (length slots) t))
+enlarged parent at t slots = attached parent at (length slots) (slots
+    ++ rows (Some parent) at (with_ids (length slots) t))
 
 -- the slots where this parent has one child fewer, the one with so many before it
 abbrev pub detached : ℕ → ℕ → List (Option Slot) → List (Option Slot)
@@ -63,4 +64,5 @@ Clears old new live live' ids = (new ≡ cleared ids old) × (live' ≡ live - l
 -- how many parents stand above a node, at most this many
 unfoldable pub parents_above : List (Option Slot) → ℕ → ℕ → ℕ
 parents_above slots zero id = 0
-parents_above slots (suc k) id = unwrap_or (option_map (λ up. suc (parents_above slots k up)) (parent_in_slot (slot_at slots id))) 0
+parents_above slots (suc k) id = unwrap_or (option_map (λ up. suc (parents_above slots k up))
+    (parent_in_slot (slot_at slots id))) 0

@@ -41,7 +41,9 @@ pub fn append(
 ) -> Result<NodeId, NoMemory>
     requires room { length slots.old.items + size (shape tree.now) ≤ MAX_IDS }
     ensures number { IfOk result (λ id. id ≡ length slots.old.items) }
-    ensures copied { OnOk result (slots.new.items ≡ slots.old.items ++ rows parent index (with_ids (length slots.old.items) (shape tree.now))) }
+    ensures copied { OnOk result (slots.new.items
+        ≡ slots.old.items
+        ++ rows parent index (with_ids (length slots.old.items) (shape tree.now))) }
     ensures longer { OnErr result (IsLonger slots.old.items slots.new.items) }
 {
     match tree {
@@ -67,7 +69,9 @@ fn append_text(
 ) -> Result<NodeId, NoMemory>
     requires room { length slots.old.items + 1 ≤ MAX_IDS }
     ensures number { IfOk result (λ id. id ≡ length slots.old.items) }
-    ensures copied { OnOk result (slots.new.items ≡ slots.old.items ++ rows parent index (with_ids (length slots.old.items) (characters text.now))) }
+    ensures copied { OnOk result (slots.new.items
+        ≡ slots.old.items
+        ++ rows parent index (with_ids (length slots.old.items) (characters text.now))) }
     ensures longer { OnErr result (IsLonger slots.old.items slots.new.items) }
 {
     let id = slots.len() as NodeId;
@@ -91,9 +95,13 @@ fn append_element(
     parent: Option<NodeId>,
     index: usize,
 ) -> Result<NodeId, NoMemory>
-    requires room { length slots.old.items + size (elem name.now attributes.now (trees_of (map shape children.now))) ≤ MAX_IDS }
+    requires room { length slots.old.items + size
+        (elem name.now attributes.now (trees_of (map shape children.now))) ≤ MAX_IDS }
     ensures number { IfOk result (λ id. id ≡ length slots.old.items) }
-    ensures copied { OnOk result (slots.new.items ≡ slots.old.items ++ rows parent index (with_ids (length slots.old.items) (elem name.now attributes.now (trees_of (map shape children.now))))) }
+    ensures copied { OnOk result (slots.new.items
+        ≡ slots.old.items
+        ++ rows parent index (with_ids (length slots.old.items)
+        (elem name.now attributes.now (trees_of (map shape children.now))))) }
     ensures longer { OnErr result (IsLonger slots.old.items slots.new.items) }
 {
     let id = slots.len() as NodeId;
@@ -119,8 +127,12 @@ fn append_all(
     parent: NodeId,
 ) -> Result<ChildIds, NoMemory>
     requires room { length slots.old.items + sizes (trees_of (map shape children.now)) ≤ MAX_IDS }
-    ensures numbers { IfOk result (λ numbers. numbers ≡ ids_of (all_with_ids (length slots.old.items) (trees_of (map shape children.now)))) }
-    ensures copied { OnOk result (slots.new.items ≡ slots.old.items ++ all_rows parent 0 (all_with_ids (length slots.old.items) (trees_of (map shape children.now)))) }
+    ensures numbers { IfOk result (λ numbers. numbers
+        ≡ ids_of (all_with_ids (length slots.old.items) (trees_of (map shape children.now)))) }
+    ensures copied { OnOk result (slots.new.items
+        ≡ slots.old.items
+        ++ all_rows parent 0 (all_with_ids (length slots.old.items)
+        (trees_of (map shape children.now)))) }
     ensures longer { OnErr result (IsLonger slots.old.items slots.new.items) }
 {
     let mut numbers = ChildIds::new(alloc);

@@ -46,7 +46,8 @@ impl Model for Doc {
 
     ghost view = { λ d. record { root = tree_in d.slots.items; next_id = length d.slots.items } };
 
-    ghost invariant = { λ d. IsTable d.slots.items (tree_in d.slots.items) × (d.live ≡ node_count (tree_in d.slots.items)) };
+    ghost invariant = { λ d. IsTable d.slots.items (tree_in d.slots.items)
+        × (d.live ≡ node_count (tree_in d.slots.items)) };
 }
 
 impl Doc {
@@ -143,7 +144,8 @@ impl Doc {
     ///
     /// Refused with `NoNode`, `NotElement`, `BadIndex` where the element has fewer children than that, `DepthLimit`, `NodeLimit` or `IdLimit`, by the first that holds; then, and where memory runs out, nothing is changed. Its time is linear in the number of the parent's children and of new nodes.
     pub fn insert(&mut self, parent: NodeId, index: usize, tree: &Tree) -> Result<NodeId, DocFault>
-        ensures inserted { OnOk result (self.new ≡ document_after_insert parent index (shape tree.now) self.old) }
+        ensures inserted { OnOk result (self.new
+            ≡ document_after_insert parent index (shape tree.now) self.old) }
         ensures number { IfOk result (λ id. id ≡ self.old.next_id) }
         ensures causes { AnswersBy (insert_causes parent index (shape tree.now) self.old) result }
         ensures kept { OnErr result (self.new ≡ self.old) }

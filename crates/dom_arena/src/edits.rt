@@ -106,7 +106,8 @@ pub fn insert(
     requires parent { parent < length slots.old.items }
     requires within { index ≤ length (kids_at slots.old.items parent) }
     ensures number { IfOk result (λ id. id ≡ length slots.old.items) }
-    ensures inserted { OnOk result (slots.new.items ≡ enlarged parent index (shape tree.now) slots.old.items) }
+    ensures inserted { OnOk result (slots.new.items
+        ≡ enlarged parent index (shape tree.now) slots.old.items) }
     ensures kept { OnErr result (slots.new.items ≡ slots.old.items) }
 {
     let given = slots.len();
@@ -129,7 +130,8 @@ fn append_and_attach(
     requires parent { parent < length slots.old.items }
     requires within { index ≤ length (kids_at slots.old.items parent) }
     ensures number { IfOk result (λ id. id ≡ length slots.old.items) }
-    ensures inserted { OnOk result (slots.new.items ≡ enlarged parent index (shape tree.now) slots.old.items) }
+    ensures inserted { OnOk result (slots.new.items
+        ≡ enlarged parent index (shape tree.now) slots.old.items) }
     ensures longer { OnErr result (IsLonger slots.old.items slots.new.items) }
 {
     let id = copies::append(alloc, slots, tree, Some(parent), index)?;
@@ -163,7 +165,9 @@ fn take(slots: &mut [Option<Slot>], id: NodeId) -> Option<Slot>
 /// Takes out a node with all below it, at most so many levels, and counts down for each.
 #[cycle(clear)]
 pub fn clear(slots: &mut [Option<Slot>], live: &mut u32, id: NodeId, levels: u32)
-    ensures { (up : Option ℕ) (index : ℕ) (n : Node) → Holds slots.old up index n → id_of n ≡ id → height n ≤ levels → AreDistinct (ids n) → Clears slots.old slots.new live.old live.new (ids n) }
+    ensures { (up : Option ℕ) (index : ℕ) (n : Node) → Holds slots.old up index n → id_of n ≡ id
+        → height n ≤ levels → AreDistinct (ids n)
+        → Clears slots.old slots.new live.old live.new (ids n) }
 {
     if levels == 0 {
         return;
@@ -175,7 +179,9 @@ pub fn clear(slots: &mut [Option<Slot>], live: &mut u32, id: NodeId, levels: u32
 
 #[cycle(clear)]
 fn clear_all(slots: &mut [Option<Slot>], live: &mut u32, children: &[NodeId], levels: u32)
-    ensures { (up index : ℕ) (ns : Nodes) → HoldsAll slots.old up index ns → ids_of ns ≡ children.now → heights ns ≤ levels → AreDistinct (all_ids ns) → Clears slots.old slots.new live.old live.new (all_ids ns) }
+    ensures { (up index : ℕ) (ns : Nodes) → HoldsAll slots.old up index ns
+        → ids_of ns ≡ children.now → heights ns ≤ levels → AreDistinct (all_ids ns)
+        → Clears slots.old slots.new live.old live.new (all_ids ns) }
 {
     for child in children {
         clear(slots, live, *child, levels);

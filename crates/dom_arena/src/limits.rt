@@ -62,7 +62,8 @@ fn are_within(children: &[Tree], levels: u32) -> bool
 /// How much of a room for nodes a tree leaves, or nothing where it has more nodes than that.
 #[cycle(room)]
 fn room_after(tree: &Tree, room: u32) -> Option<u32>
-    ensures { MatchOption result (room < size (shape tree.now)) (λ left. left + size (shape tree.now) ≡ room) }
+    ensures { MatchOption result (room < size (shape tree.now))
+        (λ left. left + size (shape tree.now) ≡ room) }
 {
     match tree {
         Tree::Elem(_, _, children) => room_after_all(children.as_slice(), room.checked_sub(1)?),
@@ -72,7 +73,8 @@ fn room_after(tree: &Tree, room: u32) -> Option<u32>
 
 #[cycle(room)]
 fn room_after_all(children: &[Tree], room: u32) -> Option<u32>
-    ensures { MatchOption result (room < sizes (trees_of (map shape children.now))) (λ left. left + sizes (trees_of (map shape children.now)) ≡ room) }
+    ensures { MatchOption result (room < sizes (trees_of (map shape children.now)))
+        (λ left. left + sizes (trees_of (map shape children.now)) ≡ room) }
 {
     let mut left = room;
     for child in children {

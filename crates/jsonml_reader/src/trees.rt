@@ -77,7 +77,8 @@ fn attributes_from(alloc: Global, items: &[Value]) -> Result<Attrs, TreeFault>
 
 /// Where an element's children begin: behind its name, and behind its attributes if it has an object of them.
 fn children_start(items: &[Value]) -> usize
-    ensures { children_of (items_view (drop 1 items.now)) ≡ trees_of_items (items_view (drop result items.now)) }
+    ensures { children_of (items_view (drop 1 items.now))
+        ≡ trees_of_items (items_view (drop result items.now)) }
 {
     match items.get(1) {
         Some(Value::Object(_)) => 2,

@@ -53,10 +53,14 @@ pub fn examples_of_assignments()
       content_height = pos 0;
     }) }
     ensures later_child { (a : Assignment)
-        → Holds a (record { width = pos 9 }) (element 0 [] [] (node (element 1 [] [] no_nodes) (node (element 2 [] [] no_nodes) no_nodes)))
+        → Holds a (record { width = pos 9 })
+        (element 0 [] []
+        (node (element 1 [] [] no_nodes) (node (element 2 [] [] no_nodes) no_nodes)))
         → (e : Entry) × (a 2 ≡ Some e) × (e.box.width ≡ pos 9) }
     ensures below { (a : Assignment)
-        → Holds a (record { width = pos 9 }) (element 0 [] [] (node (element 1 [] [] (node (element 2 [] [] no_nodes) no_nodes)) no_nodes))
+        → Holds a (record { width = pos 9 })
+        (element 0 [] []
+        (node (element 1 [] [] (node (element 2 [] [] no_nodes) no_nodes)) no_nodes))
         → (e : Entry) × (a 2 ≡ Some e) × (e.box.width ≡ pos 9) }
     ensures text_is_given_nothing { (a : Assignment)
         → GivesNoOther a (element 0 [] [] (node (text 1 []) no_nodes)) → a 1 ≡ None }

@@ -13,7 +13,8 @@ HasGivenIds d = AreDistinct (ids d.root) × ((i : ℕ) → IsAmong i (ids d.root
 
 -- these are the rest in their order, with a run of others put in somewhere
 abbrev pub HasRun : List ℕ → List ℕ → List ℕ → Type 0
-HasRun all run rest = (front : List ℕ) × ((back : List ℕ) × (all ≡ front ++ (run ++ back)) × (rest ≡ front ++ back))
+HasRun all run rest = (front : List ℕ)
+    × ((back : List ℕ) × (all ≡ front ++ (run ++ back)) × (rest ≡ front ++ back))
 
 -- no id stands in both
 abbrev pub AreApart : List ℕ → List ℕ → Type 0

@@ -108,7 +108,8 @@ or_else None o = o
 -- the node with this id
 abbrev mutual
   pub find : ℕ → Node → Option Node
-  find i (element id name attributes children) = if i == id then Some (element id name attributes children) else find_in i children
+  find i (element id name attributes children) =
+      if i == id then Some (element id name attributes children) else find_in i children
   find i (text id cs) = if i == id then Some (text id cs) else None
 
   pub find_in : ℕ → Nodes → Option Node
@@ -122,7 +123,9 @@ is_among x (y ∷ ys) = (x == y) || is_among x ys
 -- the node that has this id among its children
 abbrev mutual
   pub parent_in : ℕ → Node → Option Node
-  parent_in i (element id name attributes children) = if is_among i (ids_of children) then Some (element id name attributes children) else parent_below i children
+  parent_in i (element id name attributes children) =
+      if is_among i (ids_of children) then Some (element id name attributes children)
+      else parent_below i children
   parent_in i (text id cs) = None
 
   pub parent_below : ℕ → Nodes → Option Node

@@ -12,7 +12,8 @@ Start = Option ((ℕ × (Text × List Attribute)) ⊎ (ℕ × Text))
 -- the starts and ends of the nodes, and then more
 abbrev pub starts : Nodes → List Start → List Start
 starts no_nodes more = None ∷ more
-starts (node (element id name attributes children) ns) more = Some (inl (id, (name, attributes))) ∷ starts children (starts ns more)
+starts (node (element id name attributes children) ns) more = Some (inl (id, (name, attributes)))
+    ∷ starts children (starts ns more)
 starts (node (text id cs) ns) more = Some (inr (id, cs)) ∷ starts ns more
 
 abbrev pub joined : (ℕ × (Text × List Attribute)) ⊎ (ℕ × Text) → List Nodes → List Nodes
@@ -33,19 +34,25 @@ top (node n ns ∷ more) = n
 top (no_nodes ∷ more) = text 0 []
 top [] = text 0 []
 
-pub read_starts-starts : (ns : Nodes) (more : List Start) → read_starts (starts ns more) ≡ ns ∷ read_starts more
+pub read_starts-starts : (ns : Nodes) (more : List Start)
+    → read_starts (starts ns more) ≡ ns ∷ read_starts more
 read_starts-starts no_nodes more = refl
 read_starts-starts (node (element id name attributes children) ns) more =
-    ap (joined (inl (id, (name, attributes)))) (read_starts-starts children (starts ns more) ∙ ap (λ (st : List Nodes). children ∷ st) (read_starts-starts ns more))
+    ap (joined (inl (id, (name, attributes)))) (read_starts-starts children (starts ns more) ∙ ap
+    (λ (st : List Nodes). children ∷ st) (read_starts-starts ns more))
 read_starts-starts (node (text id cs) ns) more = ap (joined (inr (id, cs))) (read_starts-starts ns more)
 
 abbrev pub coded_start : Coded Start
-coded_start = coded_option (coded⊎ (coded× coded_ℕ (coded× (coded_list coded_ℕ) (coded_list (coded× (coded_list coded_ℕ) (coded_list coded_ℕ))))) (coded× coded_ℕ (coded_list coded_ℕ)))
+coded_start = coded_option (coded⊎ (coded× coded_ℕ (coded× (coded_list coded_ℕ)
+    (coded_list (coded× (coded_list coded_ℕ) (coded_list coded_ℕ)))))
+    (coded× coded_ℕ (coded_list coded_ℕ)))
 
 abbrev pub coded_node : Coded Node
 coded_node =
-    code_by (List Start) (coded_list coded_start) (λ n. starts (node n no_nodes) []) (λ ss. top (read_starts ss)) (λ n. ap top (read_starts-starts (node n no_nodes) []))
+    code_by (List Start) (coded_list coded_start) (λ n. starts (node n no_nodes) [])
+    (λ ss. top (read_starts ss)) (λ n. ap top (read_starts-starts (node n no_nodes) []))
 
 abbrev pub coded_document : Coded Document
 coded_document =
-    code_by (Node × ℕ) (coded× coded_node coded_ℕ) (λ d. (d.root, d.next_id)) (λ p. record { root = p.0; next_id = p.1 }) (λ _. refl)
+    code_by (Node × ℕ) (coded× coded_node coded_ℕ) (λ d. (d.root, d.next_id))
+    (λ p. record { root = p.0; next_id = p.1 }) (λ _. refl)

@@ -20,39 +20,49 @@ with_child (suc k) new (node n ns) = node n (with_child k new ns)
 abbrev mutual
   pub tree_after_insert : ℕ → ℕ → Node → Node → Node
   tree_after_insert parent index new (element id name attributes children) =
-      element id name attributes (if parent == id then with_child index new children else nodes_after_insert parent index new children)
+      element id name attributes
+      (if parent == id then with_child index new children
+      else nodes_after_insert parent index new children)
   tree_after_insert parent index new (text id cs) = text id cs
 
   pub nodes_after_insert : ℕ → ℕ → Node → Nodes → Nodes
   nodes_after_insert parent index new no_nodes = no_nodes
-  nodes_after_insert parent index new (node n ns) = node (tree_after_insert parent index new n) (nodes_after_insert parent index new ns)
+  nodes_after_insert parent index new (node n ns) = node (tree_after_insert parent index new n)
+      (nodes_after_insert parent index new ns)
 
 -- the tree without the node `i` and all below it; the root stays (DOM section 4.2.3, remove)
 abbrev mutual
   pub tree_after_remove : ℕ → Node → Node
-  tree_after_remove i (element id name attributes children) = element id name attributes (nodes_after_remove i children)
+  tree_after_remove i (element id name attributes children) = element id name attributes
+      (nodes_after_remove i children)
   tree_after_remove i (text id cs) = text id cs
 
   pub nodes_after_remove : ℕ → Nodes → Nodes
   nodes_after_remove i no_nodes = no_nodes
-  nodes_after_remove i (node n ns) = if i == id_of n then nodes_after_remove i ns else node (tree_after_remove i n) (nodes_after_remove i ns)
+  nodes_after_remove i (node n ns) =
+      if i == id_of n then nodes_after_remove i ns
+      else node (tree_after_remove i n) (nodes_after_remove i ns)
 
 -- the tree in which the node `i` is the child at `index` of the element `parent`; `index` counts the children without it
 abbrev pub tree_after_move : ℕ → ℕ → ℕ → Node → Node
 tree_after_move i parent index root =
-    unwrap_or (option_map (λ n. tree_after_insert parent index n (tree_after_remove i root)) (find i root)) root
+    unwrap_or (option_map (λ n. tree_after_insert parent index n (tree_after_remove i root))
+    (find i root)) root
 
 -- the tree in which the attributes of the element `i`, or the code points of the text `i`, are what these functions give
 abbrev mutual
   pub tree_after_change : ℕ → (List Attribute → List Attribute) → (Text → Text) → Node → Node
   tree_after_change i attributes_after text_after (element id name attributes children) =
-      element id name (if i == id then attributes_after attributes else attributes) (nodes_after_change i attributes_after text_after children)
-  tree_after_change i attributes_after text_after (text id cs) = text id (if i == id then text_after cs else cs)
+      element id name (if i == id then attributes_after attributes else attributes)
+      (nodes_after_change i attributes_after text_after children)
+  tree_after_change i attributes_after text_after (text id cs) =
+      text id (if i == id then text_after cs else cs)
 
   pub nodes_after_change : ℕ → (List Attribute → List Attribute) → (Text → Text) → Nodes → Nodes
   nodes_after_change i attributes_after text_after no_nodes = no_nodes
   nodes_after_change i attributes_after text_after (node n ns) =
-      node (tree_after_change i attributes_after text_after n) (nodes_after_change i attributes_after text_after ns)
+      node (tree_after_change i attributes_after text_after n)
+      (nodes_after_change i attributes_after text_after ns)
 
 -- the tree in which the attribute `name` of the element `i` has this value
 abbrev pub tree_after_set_attr : ℕ → Text → Text → Node → Node
@@ -80,10 +90,12 @@ abbrev pub document_after_remove : ℕ → Document → Document
 document_after_remove i d = record { root = tree_after_remove i d.root; next_id = d.next_id }
 
 abbrev pub document_after_move : ℕ → ℕ → ℕ → Document → Document
-document_after_move i parent index d = record { root = tree_after_move i parent index d.root; next_id = d.next_id }
+document_after_move i parent index d =
+    record { root = tree_after_move i parent index d.root; next_id = d.next_id }
 
 abbrev pub document_after_set_attr : ℕ → Text → Text → Document → Document
-document_after_set_attr i name value d = record { root = tree_after_set_attr i name value d.root; next_id = d.next_id }
+document_after_set_attr i name value d =
+    record { root = tree_after_set_attr i name value d.root; next_id = d.next_id }
 
 abbrev pub document_after_drop_attr : ℕ → Text → Document → Document
 document_after_drop_attr i name d = record { root = tree_after_drop_attr i name d.root; next_id = d.next_id }
@@ -96,7 +108,8 @@ document_after_set_text i cs d = record { root = tree_after_set_text i cs d.root
 -- the level of the node `i`, where the root stands at level 1
 abbrev mutual
   pub level : ℕ → Node → Option ℕ
-  level i (element id name attributes children) = if i == id then Some 1 else option_map (λ l. suc l) (level_in i children)
+  level i (element id name attributes children) =
+      if i == id then Some 1 else option_map (λ l. suc l) (level_in i children)
   level i (text id cs) = if i == id then Some 1 else None
 
   pub level_in : ℕ → Nodes → Option ℕ

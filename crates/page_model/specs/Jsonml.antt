@@ -13,7 +13,8 @@ attribute_of name d = option_map (λ value. (chars name, chars value)) (as_str d
 -- the attributes that an object's members are
 abbrev pub attributes_of : Members → Option (List Attribute)
 attributes_of no_members = Some []
-attributes_of (member name d ms) = option_and_then (λ a. option_map (λ rest. a ∷ rest) (attributes_of ms)) (attribute_of name d)
+attributes_of (member name d ms) =
+    option_and_then (λ a. option_map (λ rest. a ∷ rest) (attributes_of ms)) (attribute_of name d)
 
 abbrev pub is_object : Data → Bool
 is_object d = is_some (as_object d)
@@ -44,7 +45,8 @@ abbrev mutual
   -- the children among the items after an element's name
   pub children_of : Items → Option Trees
   children_of no_items = Some no_trees
-  children_of (item d ds) = if is_object d then trees_of_items ds else tree_and (tree_of d) (trees_of_items ds)
+  children_of (item d ds) =
+      if is_object d then trees_of_items ds else tree_and (tree_of d) (trees_of_items ds)
 
   pub trees_of_items : Items → Option Trees
   trees_of_items no_items = Some no_trees

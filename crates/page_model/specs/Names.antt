@@ -10,4 +10,5 @@ is_name_code_point c =
 
 -- a name has at least one code point
 abbrev pub is_name : List ℕ → Bool
-is_name name = nat_lt 0 (length name) && (not (nat_lt MAX_NAME (length name)) && list_all is_name_code_point name)
+is_name name = nat_lt 0 (length name)
+    && (not (nat_lt MAX_NAME (length name)) && list_all is_name_code_point name)

@@ -78,7 +78,8 @@ abbrev mutual
 
 -- whether the element's name, or the name of one of its attributes, is not in the grammar of names
 abbrev pub is_badly_named : Text → List Attribute → Bool
-is_badly_named name attributes = not (is_name name) || list_any (λ (a : Attribute). not (is_name a.0)) attributes
+is_badly_named name attributes = not (is_name name)
+    || list_any (λ (a : Attribute). not (is_name a.0)) attributes
 
 abbrev pub is_long : Text → Bool
 is_long text = nat_lt MAX_TEXT (length text)

@@ -41,7 +41,8 @@ pub fn examples_of_jsonml()
         (item (string (codes "t")) (item (array (item (string (codes "q")) no_items)) no_items)))))
         ≡ Some (elem (chars (codes "p")) ((chars (codes "a"), chars (codes "b")) ∷ [])
         (tree (characters (chars (codes "t"))) (tree (elem (chars (codes "q")) [] no_trees) no_trees))) }
-    ensures late_object { tree_of (array (item (string (codes "p")) (item (string (codes "t")) (item (object no_members) no_items)))) ≡ None }
+    ensures late_object { tree_of (array (item (string (codes "p"))
+        (item (string (codes "t")) (item (object no_members) no_items)))) ≡ None }
     ensures attribute_is_a_string { tree_of (array (item (string (codes "p"))
         (item (object (member (codes "a") (number (unsigned 1)) no_members)) no_items))) ≡ None }
     ensures no_name { tree_of (array no_items) ≡ None }

@@ -38,10 +38,13 @@ pub fn examples_of_trees_after_edits()
         ≡ element 0 (codes "a") [] (node (element 2 (codes "b") []
         (node (text 1 (codes "x")) (node (text 3 (codes "y")) no_nodes))) no_nodes) }
     ensures set_attr { tree_after_set_attr 2 (codes "k") (codes "v")
-        (element 0 (codes "a") [] (node (text 1 (codes "x")) (node (element 2 (codes "b") [] no_nodes) no_nodes)))
+        (element 0 (codes "a") []
+        (node (text 1 (codes "x")) (node (element 2 (codes "b") [] no_nodes) no_nodes)))
         ≡ element 0 (codes "a") []
-        (node (text 1 (codes "x")) (node (element 2 (codes "b") ((codes "k", codes "v") ∷ []) no_nodes) no_nodes)) }
-    ensures drop_attr { tree_after_drop_attr 0 (codes "k") (element 0 (codes "a") ((codes "k", codes "v") ∷ []) no_nodes)
+        (node (text 1 (codes "x"))
+        (node (element 2 (codes "b") ((codes "k", codes "v") ∷ []) no_nodes) no_nodes)) }
+    ensures drop_attr { tree_after_drop_attr 0 (codes "k")
+        (element 0 (codes "a") ((codes "k", codes "v") ∷ []) no_nodes)
         ≡ element 0 (codes "a") [] no_nodes }
     ensures set_text { tree_after_set_text 1 (codes "zz")
         (element 0 (codes "a") [] (node (text 1 (codes "x")) (node (text 2 (codes "y")) no_nodes)))
@@ -81,7 +84,8 @@ pub fn examples_of_tree_causes()
       next_id = 7;
     })
         ≡ record { level = 2; nodes = 3; ids = 7; code_points = 3 } }
-    ensures all_texts { (root : Node) → is_over_text_limit root ≡ nat_lt 16777216 (text_size (without_ids root)) }
+    ensures all_texts { (root : Node)
+        → is_over_text_limit root ≡ nat_lt 16777216 (text_size (without_ids root)) }
 {}
 
 /// Of several causes the first in the order is told, here of edits of `<a>x<b>y</b></a>`.
@@ -92,10 +96,15 @@ pub fn examples_of_edit_causes()
       next_id = 7;
     }
         in let bad : Tree = elem [] [] no_trees
-        in (first_of (insert_causes 9 9 bad d) ≡ Some NoNode) × (first_of (insert_causes 1 9 bad d) ≡ Some NotElement)
+        in (first_of (insert_causes 9 9 bad d) ≡ Some NoNode)
+        × (first_of (insert_causes 1 9 bad d) ≡ Some NotElement)
         × (first_of (insert_causes 0 3 bad d) ≡ Some BadIndex)
         × (first_of (insert_causes 0 2 (characters []) d) ≡ None) }
-    ensures remove { let d : Document = record { root = element 0 (codes "a") [] (node (text 1 (codes "x")) no_nodes); next_id = 7 }
+    ensures remove { let d : Document = record {
+      root = element 0 (codes "a") []
+          (node (text 1 (codes "x")) no_nodes);
+      next_id = 7;
+    }
         in (first_of (remove_causes 2 d) ≡ Some NoNode) × (first_of (remove_causes 0 d) ≡ Some IsRoot)
         × (first_of (remove_causes 1 d) ≡ None) }
     ensures move_to { let d : Document = record {
@@ -113,16 +122,36 @@ pub fn examples_of_edit_causes()
       next_id = 3;
     }
         in (first_of (move_causes 1 2 9 d) ≡ Some Cycle) × (first_of (move_causes 2 0 1 d) ≡ None) }
-    ensures set_attr { let d : Document = record { root = element 0 (codes "a") [] (node (text 1 (codes "x")) no_nodes); next_id = 7 }
-        in (first_of (set_attr_causes 9 [] [] d) ≡ Some NoNode) × (first_of (set_attr_causes 1 [] [] d) ≡ Some NotElement)
-        × (first_of (set_attr_causes 0 [] [] d) ≡ Some BadName) × (first_of (set_attr_causes 0 (codes "k") [] d) ≡ None) }
-    ensures most_attributes { let d : Document = record { root = element 0 (codes "a") (replicate 64 (codes "k", [])) no_nodes; next_id = 1 }
+    ensures set_attr { let d : Document = record {
+      root = element 0 (codes "a") []
+          (node (text 1 (codes "x")) no_nodes);
+      next_id = 7;
+    }
+        in (first_of (set_attr_causes 9 [] [] d) ≡ Some NoNode)
+        × (first_of (set_attr_causes 1 [] [] d) ≡ Some NotElement)
+        × (first_of (set_attr_causes 0 [] [] d) ≡ Some BadName)
+        × (first_of (set_attr_causes 0 (codes "k") [] d) ≡ None) }
+    ensures most_attributes { let d : Document = record {
+      root = element 0 (codes "a")
+          (replicate 64 (codes "k", [])) no_nodes;
+      next_id = 1;
+    }
         in (first_of (set_attr_causes 0 (codes "j") [] d) ≡ Some AttrLimit)
         × (first_of (set_attr_causes 0 (codes "k") [] d) ≡ None) }
-    ensures drop_attr { let d : Document = record { root = element 0 (codes "a") [] (node (text 1 (codes "x")) no_nodes); next_id = 7 }
-        in (first_of (drop_attr_causes 9 d) ≡ Some NoNode) × (first_of (drop_attr_causes 1 d) ≡ Some NotElement)
+    ensures drop_attr { let d : Document = record {
+      root = element 0 (codes "a") []
+          (node (text 1 (codes "x")) no_nodes);
+      next_id = 7;
+    }
+        in (first_of (drop_attr_causes 9 d) ≡ Some NoNode)
+        × (first_of (drop_attr_causes 1 d) ≡ Some NotElement)
         × (first_of (drop_attr_causes 0 d) ≡ None) }
-    ensures set_text { let d : Document = record { root = element 0 (codes "a") [] (node (text 1 (codes "x")) no_nodes); next_id = 7 }
-        in (first_of (set_text_causes 9 [] d) ≡ Some NoNode) × (first_of (set_text_causes 0 [] d) ≡ Some NotText)
+    ensures set_text { let d : Document = record {
+      root = element 0 (codes "a") []
+          (node (text 1 (codes "x")) no_nodes);
+      next_id = 7;
+    }
+        in (first_of (set_text_causes 9 [] d) ≡ Some NoNode)
+        × (first_of (set_text_causes 0 [] d) ≡ Some NotText)
         × (first_of (set_text_causes 1 [] d) ≡ None) }
 {}

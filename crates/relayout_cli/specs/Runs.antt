@@ -30,7 +30,8 @@ pub record Run : Type 0 where
 -- ---- what is answered
 
 -- what was appended to the sink is the replies to these lines, and the ledger has their logs
-pub record AnswersLines (setting : Setting) (run : Run) (lines : List (List ℕ)) (old new : List ℕ) : Type 0 where
+pub record AnswersLines (setting : Setting) (run : Run) (lines : List (List ℕ))
+    (old new : List ℕ) : Type 0 where
   pub logs : List Log
   pub text : List ℕ
   pub replies : Replies setting lines logs text
@@ -101,7 +102,8 @@ HasBegunBy NoMemory others begun = HasBegun others begun
 HasBegunBy InputSpent others begun = begun ≡ []
 
 -- some first lines of all were answered, which are among those of the bytes taken: this was written of the replies to them, and the ledger has their logs
-pub record BeginsReplies (setting : Setting) (status : Status) (run : Run) (all rest old new : List ℕ) : Type 0 where
+pub record BeginsReplies (setting : Setting) (status : Status) (run : Run)
+    (all rest old new : List ℕ) : Type 0 where
   pub first : List (List ℕ)
   pub others : List (List ℕ)
   pub taken : List ℕ
@@ -138,12 +140,18 @@ LogsOnce old new = (logs : List Log) × AllOnce logs × (new ≡ old ++ events l
 
 -- a run ends with a fault only where the count of that side rose, and the other's did not
 abbrev pub FaultsBy : Status → Run → Type 0
-FaultsBy Done run = (run.after.source.faults ≡ run.before.source.faults) × (run.after.sink.faults ≡ run.before.sink.faults)
-FaultsBy BadWords run = (run.after.source.faults ≡ run.before.source.faults) × (run.after.sink.faults ≡ run.before.sink.faults)
-FaultsBy ReadFault run = CountsFault run.before.source.faults run.after.source.faults × (run.after.sink.faults ≡ run.before.sink.faults)
-FaultsBy WriteFault run = (run.after.source.faults ≡ run.before.source.faults) × CountsFault run.before.sink.faults run.after.sink.faults
-FaultsBy NoMemory run = (run.after.source.faults ≡ run.before.source.faults) × (run.after.sink.faults ≡ run.before.sink.faults)
-FaultsBy InputSpent run = (run.after.source.faults ≡ run.before.source.faults) × (run.after.sink.faults ≡ run.before.sink.faults)
+FaultsBy Done run = (run.after.source.faults ≡ run.before.source.faults)
+    × (run.after.sink.faults ≡ run.before.sink.faults)
+FaultsBy BadWords run = (run.after.source.faults ≡ run.before.source.faults)
+    × (run.after.sink.faults ≡ run.before.sink.faults)
+FaultsBy ReadFault run = CountsFault run.before.source.faults run.after.source.faults
+    × (run.after.sink.faults ≡ run.before.sink.faults)
+FaultsBy WriteFault run = (run.after.source.faults ≡ run.before.source.faults)
+    × CountsFault run.before.sink.faults run.after.sink.faults
+FaultsBy NoMemory run = (run.after.source.faults ≡ run.before.source.faults)
+    × (run.after.sink.faults ≡ run.before.sink.faults)
+FaultsBy InputSpent run = (run.after.source.faults ≡ run.before.source.faults)
+    × (run.after.sink.faults ≡ run.before.sink.faults)
 
 -- how many bytes a run takes: all that it may exactly where the input was spent, unless the sink or memory failed then
 abbrev pub CountBy : Status → ℕ → Type 0
@@ -195,6 +203,8 @@ pub record Serves (setting : Setting) (status : Status) (run : Run) : Type 0 whe
   -- the bytes were counted
   pub taken : TakenBy status run
   -- without faults, and with fewer bytes than a run takes, a run comes to its end, or memory does
-  pub complete : IsUntroubled run → HasFewer run.before.source.left run.before.source.taken run.after.source.taken → IsDoneButForMemory status
+  pub complete : IsUntroubled run
+      → HasFewer run.before.source.left run.before.source.taken run.after.source.taken
+      → IsDoneButForMemory status
   -- words are none of its matter
   pub words : status ≢ BadWords

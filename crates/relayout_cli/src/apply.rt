@@ -24,7 +24,8 @@ use std::alloc::Global;
 pub fn apply(alloc: Global, state: &mut Option<Page>, edit: Edit) -> Result<Accepted, Refusal>
     requires root { HasRoot (edit_view edit) }
     ensures accepted { IfOk result (λ a. a ≡ accepted_by (state_view state.old) (edit_view edit)) }
-    ensures state { OnOk result (state_view state.new ≡ state_after_edit (state_view state.old) (edit_view edit)) }
+    ensures state { OnOk result (state_view state.new
+        ≡ state_after_edit (state_view state.old) (edit_view edit)) }
     ensures allowed { OnOk result (first_of (edit_causes (state_view state.old) (edit_view edit)) ≡ None) }
     ensures refused { IfErr result (IsRefusedBy (edit_causes (state_view state.old) (edit_view edit))) }
     ensures kept { OnErr result (state.new ≡ state.old) }
@@ -61,9 +62,15 @@ fn apply_load(
 ) -> Result<Accepted, Refusal>
     requires root { is_elem (shape doc.now) ≡ true }
     ensures accepted { IfOk result (λ a. a ≡ record { first = 0; count = size (shape doc.now) }) }
-    ensures state { OnOk result (state_view state.new ≡ state_after_edit (state_view state.old) (load viewport.width viewport.height (shape doc.now) sheets)) }
-    ensures allowed { OnOk result (first_of (edit_causes (state_view state.old) (load viewport.width viewport.height (shape doc.now) sheets)) ≡ None) }
-    ensures refused { IfErr result (IsRefusedBy (edit_causes (state_view state.old) (load viewport.width viewport.height (shape doc.now) sheets))) }
+    ensures state { OnOk result (state_view state.new
+        ≡ state_after_edit (state_view state.old) (load viewport.width viewport.height
+        (shape doc.now) sheets)) }
+    ensures allowed { OnOk result
+        (first_of (edit_causes (state_view state.old) (load viewport.width viewport.height
+        (shape doc.now) sheets)) ≡ None) }
+    ensures refused { IfErr result
+        (IsRefusedBy (edit_causes (state_view state.old) (load viewport.width viewport.height
+        (shape doc.now) sheets))) }
     ensures kept { OnErr result (state.new ≡ state.old) }
 {
     if viewport.width > MAX_SIDE || viewport.height > MAX_SIDE {
@@ -93,10 +100,15 @@ fn texts_or_none(alloc: Global, texts: Option<Seq<Text>>) -> Seq<Text>
 
 /// Inserts `tree` at `index` among the children of `parent`.
 fn apply_insert(page: &mut Page, parent: u64, index: u64, tree: &Tree) -> Result<Accepted, Refusal>
-    ensures accepted { IfOk result (λ a. a ≡ record { first = page.old.document.next_id; count = size (shape tree.now) }) }
-    ensures page { OnOk result (page_view page.new ≡ with_document (document_after_insert parent index (shape tree.now)) (page_view page.old)) }
-    ensures allowed { OnOk result (first_of (insert_causes parent index (shape tree.now) page.old.document) ≡ None) }
-    ensures refused { IfErr result (IsRefusedBy (insert_causes parent index (shape tree.now) page.old.document)) }
+    ensures accepted { IfOk result (λ a. a
+        ≡ record { first = page.old.document.next_id; count = size (shape tree.now) }) }
+    ensures page { OnOk result (page_view page.new
+        ≡ with_document (document_after_insert parent index (shape tree.now))
+        (page_view page.old)) }
+    ensures allowed { OnOk result
+        (first_of (insert_causes parent index (shape tree.now) page.old.document) ≡ None) }
+    ensures refused { IfErr result
+        (IsRefusedBy (insert_causes parent index (shape tree.now) page.old.document)) }
     ensures kept { OnErr result (page.new ≡ page.old) }
 {
     let parent = node_id(&page.document, parent)?;
@@ -109,7 +121,8 @@ fn apply_insert(page: &mut Page, parent: u64, index: u64, tree: &Tree) -> Result
 /// Removes the node `id` with all below it.
 fn apply_remove(page: &mut Page, id: u64) -> Result<Accepted, Refusal>
     ensures accepted { IfOk result (λ a. a ≡ record { first = 0; count = 0 }) }
-    ensures page { OnOk result (page_view page.new ≡ with_document (document_after_remove id) (page_view page.old)) }
+    ensures page { OnOk result (page_view page.new
+        ≡ with_document (document_after_remove id) (page_view page.old)) }
     ensures allowed { OnOk result (first_of (remove_causes id page.old.document) ≡ None) }
     ensures refused { IfErr result (IsRefusedBy (remove_causes id page.old.document)) }
     ensures kept { OnErr result (page.new ≡ page.old) }

@@ -22,7 +22,8 @@ use units64::Units;
 /// Appends the dump of a page.
 pub fn push_dump(page: &Page, reply: &mut String) -> Result<(), NoMemory>
     requires empty { string_bytes reply.old ≡ [] }
-    ensures dump { OnOk result ((setting : Setting) → IsDumpOf setting (page_view page.now) (string_bytes reply.new)) }
+    ensures dump { OnOk result ((setting : Setting)
+        → IsDumpOf setting (page_view page.now) (string_bytes reply.new)) }
 {
     let width = units_of(page.viewport.width);
     push_boxes(
@@ -45,7 +46,9 @@ fn push_boxes(
     levels: u32,
 ) -> Result<(), NoMemory>
     requires { Reaches levels id doc.now.root }
-    ensures { OnOk result (string_bytes reply.new ≡ string_bytes reply.old ++ box_lines (all_flat width) (pos 0) (pos 0) (node_at id doc.now.root)) }
+    ensures { OnOk result (string_bytes reply.new
+        ≡ string_bytes reply.old ++ box_lines (all_flat width) (pos 0) (pos 0)
+        (node_at id doc.now.root)) }
 {
     match doc.tag(id) {
         Some(tag) => {
@@ -67,7 +70,9 @@ fn push_children(
     levels: u32,
 ) -> Result<(), NoMemory>
     requires { AllReach levels kids doc.now.root }
-    ensures { OnOk result (string_bytes reply.new ≡ string_bytes reply.old ++ all_box_lines (all_flat width) (pos 0) (pos 0) (nodes_at kids.entry doc.now.root)) }
+    ensures { OnOk result (string_bytes reply.new
+        ≡ string_bytes reply.old ++ all_box_lines (all_flat width) (pos 0) (pos 0)
+        (nodes_at kids.entry doc.now.root)) }
 {
     for kid in kids {
         push_boxes(reply, doc, kid, width, levels)?;
@@ -78,7 +83,9 @@ fn push_children(
 /// Appends the line of a box that stands in one at the viewport's corner.
 #[tactic(auto, unfolding(reply_model::specs::DumpText::box_line))]
 fn push_box(reply: &mut String, id: NodeId, tag: &str, frame: &Frame) -> Result<(), NoMemory>
-    ensures { OnOk result (string_bytes reply.new ≡ string_bytes reply.old ++ box_line id tag.now frame.now.left frame.now.top (frame_view frame.now)) }
+    ensures { OnOk result (string_bytes reply.new
+        ≡ string_bytes reply.old ++ box_line id tag.now frame.now.left frame.now.top
+        (frame_view frame.now)) }
 {
     push_head(reply, id, tag)?;
     push_lengths(reply, frame.left, frame.top)?;
@@ -89,7 +96,8 @@ fn push_box(reply: &mut String, id: NodeId, tag: &str, frame: &Frame) -> Result<
 
 /// Appends what a box's line begins with: which element it is of.
 fn push_head(reply: &mut String, id: NodeId, tag: &str) -> Result<(), NoMemory>
-    ensures { OnOk result (string_bytes reply.new ≡ string_bytes reply.old ++ (codes "box" ++ (field (decimal id) ++ field tag.now))) }
+    ensures { OnOk result (string_bytes reply.new ≡ string_bytes reply.old ++ (codes "box"
+        ++ (field (decimal id) ++ field tag.now))) }
 {
     reply.push_str("box")?;
     push_field(reply, Buffer::new().format(id))?;
@@ -98,7 +106,8 @@ fn push_head(reply: &mut String, id: NodeId, tag: &str) -> Result<(), NoMemory>
 
 /// Appends two fields that are lengths, in units.
 fn push_lengths(reply: &mut String, a: Units, b: Units) -> Result<(), NoMemory>
-    ensures { OnOk result (string_bytes reply.new ≡ string_bytes reply.old ++ (field (signed_decimal a) ++ field (signed_decimal b))) }
+    ensures { OnOk result (string_bytes reply.new
+        ≡ string_bytes reply.old ++ (field (signed_decimal a) ++ field (signed_decimal b))) }
 {
     push_field(reply, Buffer::new().format(a.get()))?;
     push_field(reply, Buffer::new().format(b.get()))

@@ -8,27 +8,67 @@ ghost use Rattle.relayout_cli.specs.declared.status.Status.TheVariants.{Done, Re
 /// A run is `Done` only where neither side failed, and a fault is told by the side whose count rose.
 pub fn examples_of_causes()
     ensures done_without_faults { FaultsBy Done (record {
-      before = record { source = record { left = None; taken = 0; faults = 3 }; sink = record { held = None; faults = 5 }; ledger = [] };
-      after = record { source = record { left = None; taken = 9; faults = 3 }; sink = record { held = None; faults = 5 }; ledger = [] };
+      before = record {
+        source = record { left = None; taken = 0; faults = 3 };
+        sink = record { held = None; faults = 5 };
+        ledger = [];
+      };
+      after = record {
+        source = record { left = None; taken = 9; faults = 3 };
+        sink = record { held = None; faults = 5 };
+        ledger = [];
+      };
     }) }
     ensures not_done_with_a_fault_of_the_sink { FaultsBy Done (record {
-      before = record { source = record { left = None; taken = 0; faults = 3 }; sink = record { held = None; faults = 5 }; ledger = [] };
-      after = record { source = record { left = None; taken = 9; faults = 3 }; sink = record { held = None; faults = 6 }; ledger = [] };
+      before = record {
+        source = record { left = None; taken = 0; faults = 3 };
+        sink = record { held = None; faults = 5 };
+        ledger = [];
+      };
+      after = record {
+        source = record { left = None; taken = 9; faults = 3 };
+        sink = record { held = None; faults = 6 };
+        ledger = [];
+      };
     })
         → ⊥ }
     ensures not_done_with_a_fault_of_the_source { FaultsBy Done (record {
-      before = record { source = record { left = None; taken = 0; faults = 3 }; sink = record { held = None; faults = 5 }; ledger = [] };
-      after = record { source = record { left = None; taken = 9; faults = 4 }; sink = record { held = None; faults = 5 }; ledger = [] };
+      before = record {
+        source = record { left = None; taken = 0; faults = 3 };
+        sink = record { held = None; faults = 5 };
+        ledger = [];
+      };
+      after = record {
+        source = record { left = None; taken = 9; faults = 4 };
+        sink = record { held = None; faults = 5 };
+        ledger = [];
+      };
     })
         → ⊥ }
     ensures read_fault { FaultsBy ReadFault (record {
-      before = record { source = record { left = None; taken = 0; faults = 3 }; sink = record { held = None; faults = 5 }; ledger = [] };
-      after = record { source = record { left = None; taken = 9; faults = 3 }; sink = record { held = None; faults = 6 }; ledger = [] };
+      before = record {
+        source = record { left = None; taken = 0; faults = 3 };
+        sink = record { held = None; faults = 5 };
+        ledger = [];
+      };
+      after = record {
+        source = record { left = None; taken = 9; faults = 3 };
+        sink = record { held = None; faults = 6 };
+        ledger = [];
+      };
     })
         → ⊥ }
     ensures write_fault { FaultsBy WriteFault (record {
-      before = record { source = record { left = None; taken = 0; faults = 3 }; sink = record { held = None; faults = 5 }; ledger = [] };
-      after = record { source = record { left = None; taken = 9; faults = 4 }; sink = record { held = None; faults = 5 }; ledger = [] };
+      before = record {
+        source = record { left = None; taken = 0; faults = 3 };
+        sink = record { held = None; faults = 5 };
+        ledger = [];
+      };
+      after = record {
+        source = record { left = None; taken = 9; faults = 4 };
+        sink = record { held = None; faults = 5 };
+        ledger = [];
+      };
     })
         → ⊥ }
     ensures a_script_has_fewer { HasFewer (Some (1 ∷ 2 ∷ 3 ∷ [])) 0 0 }

@@ -55,7 +55,8 @@ fn push_number(reply: &mut String, number: u32) -> Result<(), NoMemory>
 /// Appends the line of an edit that brought a tree.
 #[tactic(auto, unfolding(reply_model::specs::Spelling::ok_nodes_line))]
 fn push_ok_nodes(reply: &mut String, accepted: Accepted) -> Result<(), NoMemory>
-    ensures line { OnOk result (string_bytes reply.new ≡ string_bytes reply.old ++ ok_nodes_line accepted.first accepted.count) }
+    ensures line { OnOk result (string_bytes reply.new
+        ≡ string_bytes reply.old ++ ok_nodes_line accepted.first accepted.count) }
     ensures room { OnErr result (string_capacity reply.old < string_len reply.old + 25) }
 {
     push_text(reply, "ok")?;
@@ -70,7 +71,8 @@ pub fn push_accepted(
     brings_tree: bool,
     accepted: Accepted,
 ) -> Result<(), NoMemory>
-    ensures line { OnOk result (string_bytes reply.new ≡ string_bytes reply.old ++ edit_text brings_tree accepted) }
+    ensures line { OnOk result (string_bytes reply.new
+        ≡ string_bytes reply.old ++ edit_text brings_tree accepted) }
     ensures room { OnErr result (string_capacity reply.old < string_len reply.old + 32) }
 {
     if brings_tree {

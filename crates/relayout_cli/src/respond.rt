@@ -25,7 +25,9 @@ pub fn respond(
     reply: &mut String,
 ) -> Result<(), NoMemory>
     requires empty { string_bytes reply.old ≡ [] }
-    ensures response { OnOk result (IsResponse (asked_view asked) (empty_logs (most_logs (asked_view asked))) (string_bytes reply.new) state.old state.new) }
+    ensures response { OnOk result
+        (IsResponse (asked_view asked) (empty_logs (most_logs (asked_view asked)))
+        (string_bytes reply.new) state.old state.new) }
     ensures kept { OnErr result (state.new ≡ state.old) }
 {
     match asked {
@@ -49,7 +51,9 @@ fn respond_built(
 ) -> Result<(), NoMemory>
     requires empty { string_bytes reply.old ≡ [] }
     requires built { first_of (form_causes (request_view request)) ≡ None }
-    ensures response { OnOk result (IsResponse (a_request (request_view request)) (empty_logs (most_logs (a_request (request_view request)))) (string_bytes reply.new) state.old state.new) }
+    ensures response { OnOk result (IsResponse (a_request (request_view request))
+        (empty_logs (most_logs (a_request (request_view request)))) (string_bytes reply.new)
+        state.old state.new) }
     ensures kept { OnErr result (state.new ≡ state.old) }
 {
     match request {
@@ -68,7 +72,9 @@ fn respond_edit(
 ) -> Result<(), NoMemory>
     requires empty { string_bytes reply.old ≡ [] }
     requires built { first_of (form_causes (an_edit (edit_view edit))) ≡ None }
-    ensures response { OnOk result (IsResponse (a_request (an_edit (edit_view edit))) (empty_logs (most_logs (a_request (an_edit (edit_view edit))))) (string_bytes reply.new) state.old state.new) }
+    ensures response { OnOk result (IsResponse (a_request (an_edit (edit_view edit)))
+        (empty_logs (most_logs (a_request (an_edit (edit_view edit))))) (string_bytes reply.new)
+        state.old state.new) }
     ensures kept { OnErr result (state.new ≡ state.old) }
 {
     reply.reserve(MAX_EDIT_REPLY)?;
@@ -92,7 +98,9 @@ fn brings_tree(edit: &Edit) -> bool
 /// Answers a query, or refuses it.
 fn respond_query(state: &Option<Page>, query: Query, reply: &mut String) -> Result<(), NoMemory>
     requires empty { string_bytes reply.old ≡ [] }
-    ensures response { OnOk result (IsResponse (a_request (a_query query)) (empty_logs (most_logs (a_request (a_query query)))) (string_bytes reply.new) state.now state.now) }
+    ensures response { OnOk result (IsResponse (a_request (a_query query))
+        (empty_logs (most_logs (a_request (a_query query)))) (string_bytes reply.new)
+        state.now state.now) }
 {
     match state {
         Some(page) => match query {

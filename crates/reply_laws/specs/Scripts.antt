@@ -8,7 +8,8 @@ use Rattle.request_model.specs.declared.query.Query.TheVariants.{Dump}
 use Rattle.stream_model.specs.Ledger.{Log}
 
 -- the logs and the replies of an edit and of a dump after it, where `to` is where the edit leads
-pub record IsEditThenDump (setting : Setting) (from : Course) (e : Edit) (logs : List Log) (text : List ℕ) : Type 0 where
+pub record IsEditThenDump (setting : Setting) (from : Course) (e : Edit) (logs : List Log)
+    (text : List ℕ) : Type 0 where
   pub to : Course
   pub edit_logs : List Log
   pub dump_logs : List Log

@@ -10,7 +10,8 @@ ghost use Rattle.layout_model.specs.Setting.{Setting};
 /// and each turn leaves it so.
 pub fn keep_given_ids()
     ensures at_the_start { StateHasGivenIds start.state }
-    ensures each_turn { (setting : Setting) (from to : Course) (asked : Asked) (own : List Log) (reply : List ℕ)
+    ensures each_turn { (setting : Setting) (from to : Course) (asked : Asked) (own : List Log)
+        (reply : List ℕ)
         → StateHasGivenIds from.state → IsTurn setting from asked own reply to → StateHasGivenIds to.state }
 {}
 
@@ -18,7 +19,8 @@ pub fn keep_given_ids()
 /// document, and of the sides of the viewport.
 pub fn keep_limits()
     ensures at_the_start { StateKeepsLimits start.state }
-    ensures each_turn { (setting : Setting) (from to : Course) (asked : Asked) (own : List Log) (reply : List ℕ)
+    ensures each_turn { (setting : Setting) (from to : Course) (asked : Asked) (own : List Log)
+        (reply : List ℕ)
         → StateHasGivenIds from.state → StateKeepsLimits from.state
         → IsTurn setting from asked own reply to → StateKeepsLimits to.state }
 {}

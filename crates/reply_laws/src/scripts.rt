@@ -23,7 +23,8 @@ pub fn have_one_text()
 /// Lines are answered in their order: where an edit that is not refused stands before a dump, the
 /// dump is of the state after the edit, and its reply and logs come after those of the edit.
 pub fn dump_what_edits_leave()
-    ensures { (setting : Setting) (from : Course) (first second : List ℕ) (e : Edit) (logs : List Log) (text : List ℕ)
+    ensures { (setting : Setting) (from : Course) (first second : List ℕ) (e : Edit)
+        (logs : List Log) (text : List ℕ)
         → asked_of_line first ≡ request (edit e) → asked_of_line second ≡ request (query Dump)
         → refusal_of from.state (edit e) ≡ None → AreReplies setting from (first ∷ second ∷ []) logs text
         → IsEditThenDump setting from e logs text }

@@ -23,7 +23,8 @@ pub fn exist()
 
 /// With the same logs, what a line asks for has one reply, and leads to one place.
 pub fn are_unique()
-    ensures { (setting : Setting) (from to to' : Course) (asked : Asked) (own : List Log) (reply reply' : List ℕ)
+    ensures { (setting : Setting) (from to to' : Course) (asked : Asked) (own : List Log)
+        (reply reply' : List ℕ)
         → IsTurn setting from asked own reply to → IsTurn setting from asked own reply' to'
         → (reply ≡ reply') × (to ≡ to') }
 {}
@@ -31,7 +32,8 @@ pub fn are_unique()
 /// A refused line is answered by its cause. It leaves what is loaded, and the log of the last
 /// accepted edit.
 pub fn refused_change_nothing()
-    ensures { (setting : Setting) (from to : Course) (asked : Asked) (own : List Log) (reply : List ℕ) (c : Cause)
+    ensures { (setting : Setting) (from to : Course) (asked : Asked) (own : List Log)
+        (reply : List ℕ) (c : Cause)
         → answer_to from.state asked ≡ refused c → IsTurn setting from asked own reply to
         → (reply ≡ error_line c) × (to ≡ from) }
 {}
@@ -44,7 +46,8 @@ pub fn queries_change_nothing()
 
 /// A dump is the text of the consistent assignment: of every one, as there are not two.
 pub fn dumps_show_the_assignment()
-    ensures { (setting : Setting) (from to : Course) (page : Page) (a : Assignment) (own : List Log) (reply : List ℕ)
+    ensures { (setting : Setting) (from to : Course) (page : Page) (a : Assignment) (own : List Log)
+        (reply : List ℕ)
         → from.state ≡ Some page → Consistent setting page a
         → IsTurn setting from (request (query Dump)) own reply to
         → reply ≡ text_unless (first_of (dump_causes page a)) (dump_text page.document.root a ++ ok_line) }
@@ -63,7 +66,8 @@ pub fn edits_alone_begin_logs()
         → IsTurn setting from (request (edit e)) own reply to → length own ≡ 1 }
     ensures queries { (setting : Setting) (from to : Course) (q : Query) (own : List Log) (reply : List ℕ)
         → IsTurn setting from (request (query q)) own reply to → own ≡ [] }
-    ensures broken_lines { (setting : Setting) (from to : Course) (c : Cause) (own : List Log) (reply : List ℕ)
+    ensures broken_lines { (setting : Setting) (from to : Course) (c : Cause) (own : List Log)
+        (reply : List ℕ)
         → IsTurn setting from (broken c) own reply to → own ≡ [] }
     ensures blank_lines { (setting : Setting) (from to : Course) (own : List Log) (reply : List ℕ)
         → IsTurn setting from nothing own reply to → own ≡ [] }

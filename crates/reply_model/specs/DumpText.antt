@@ -13,7 +13,8 @@ unfoldable pub box_line : ℕ → List ℕ → ℤ → ℤ → Box → List ℕ
 box_line id tag x y box =
     codes "box" ++ (field (decimal id) ++ (field tag ++ (field (signed_decimal x) ++ (field (signed_decimal y)
     ++ (field (signed_decimal box.width) ++ (field (signed_decimal box.height)
-    ++ (field (signed_decimal box.content_width) ++ (field (signed_decimal box.content_height) ++ end_line))))))))
+    ++ (field (signed_decimal box.content_width)
+    ++ (field (signed_decimal box.content_height) ++ end_line))))))))
 
 -- an element's line; one that is given nothing has none
 abbrev pub entry_line : ℕ → Text → ℤ → ℤ → Option Entry → List ℕ

@@ -32,7 +32,8 @@ IsLogOf setting from q a log = log ≡ []
 -- n logs with this property
 abbrev pub AreLogs : ℕ → (Log → Type 0) → List Log → Type 0
 AreLogs zero P own = own ≡ []
-AreLogs (suc n) P own = (log : Log) × P log × ((others : List Log) × AreLogs n P others × (own ≡ log ∷ others))
+AreLogs (suc n) P own = (log : Log) × P log
+    × ((others : List Log) × AreLogs n P others × (own ≡ log ∷ others))
 
 -- the logs of a request that is carried out
 abbrev pub AreLogsOf : Setting → Course → Request → Option Assignment → List Log → Type 0
@@ -81,7 +82,8 @@ abbrev pub IsEditText : Setting → Course → Edit → Course → List ℕ → 
 IsEditText setting from e to reply = reply ≡ edit_text (brings_tree e) (accepted_by from.state e)
 
 -- an edit that is carried out: what it logs, its reply, and where it leads
-pub record IsEditReply (setting : Setting) (from : Course) (e : Edit) (own : List Log) (reply : List ℕ) (to : Course) : Type 0 where
+pub record IsEditReply (setting : Setting) (from : Course) (e : Edit) (own : List Log)
+    (reply : List ℕ) (to : Course) : Type 0 where
   pub logs : AreLogsOf setting from (edit e) None own
   pub text : IsEditText setting from e to reply
   pub state : to.state ≡ state_after_edit from.state e
@@ -92,18 +94,22 @@ pub record IsEditReply (setting : Setting) (from : Course) (e : Edit) (own : Lis
 -- what a line asks for was answered so: what is logged, the reply, and where it leads
 abbrev pub IsAnswered : Answer → Setting → Course → Asked → List Log → List ℕ → Course → Type 0
 IsAnswered silent setting from asked own reply to = (own ≡ []) × (reply ≡ []) × (to ≡ from)
-IsAnswered (refused c) setting from asked own reply to = AreRefusedLogs asked own × (reply ≡ error_line c) × (to ≡ from)
+IsAnswered (refused c) setting from asked own reply to = AreRefusedLogs asked own
+    × (reply ≡ error_line c) × (to ≡ from)
 IsAnswered (accepted (edit e)) setting from asked own reply to = IsEditReply setting from e own reply to
-IsAnswered (accepted (query q)) setting from asked own reply to = IsQueryReply from.state setting from q own reply × (to ≡ from)
+IsAnswered (accepted (query q)) setting from asked own reply to =
+    IsQueryReply from.state setting from q own reply × (to ≡ from)
 
 -- one turn of a script: from one place to the next, by what a line asks for
 unfoldable pub IsTurn : Setting → Course → Asked → List Log → List ℕ → Course → Type 0
-IsTurn setting from asked own reply to = IsAnswered (answer_to from.state asked) setting from asked own reply to
+IsTurn setting from asked own reply to =
+    IsAnswered (answer_to from.state asked) setting from asked own reply to
 
 -- ---- a script
 
 -- the first line of a script: its logs, its reply, where it leads, and the logs and replies after it
-pub record Step (setting : Setting) (from : Course) (line : List ℕ) (logs : List Log) (text : List ℕ) : Type 0 where
+pub record Step (setting : Setting) (from : Course) (line : List ℕ) (logs : List Log)
+    (text : List ℕ) : Type 0 where
   pub own : List Log
   pub later : List Log
   pub reply : List ℕ

@@ -24,7 +24,8 @@ ghost use Rattle.reply_model.specs.Replies.{Course, edit_text, newest, text_unle
 #[tactic(auto, unfolding(crate::specs::Spelling::ok_line, crate::specs::Spelling::ok_nodes_line, crate::specs::Spelling::error_line, crate::specs::DumpText::box_line))]
 pub fn examples_of_lines()
     ensures ok { ok_line ≡ codes "ok\n" }
-    ensures nodes { ok_nodes_line 10 2 ≡ codes "ok " ++ (decimal 10 ++ (codes " " ++ (decimal 2 ++ codes "\n"))) }
+    ensures nodes { ok_nodes_line 10 2
+        ≡ codes "ok " ++ (decimal 10 ++ (codes " " ++ (decimal 2 ++ codes "\n"))) }
     ensures error { error_line ViewportRange ≡ codes "error " ++ (decimal 16 ++ codes " viewport-range\n") }
     ensures last_error { error_line NotBuilt ≡ codes "error " ++ (decimal 21 ++ codes " not-built\n") }
     ensures a_box { box_line 7 (codes "div") (pos 1) (negsuc 1) (record {
@@ -142,7 +143,8 @@ pub fn examples_of_dumps()
           content_width = pos 9;
           content_height = pos 10;
         }) }
-    ensures below_nothing_given { box_lines (λ _. None) (pos 0) (pos 0) (element 0 (codes "a") [] (node (element 1 (codes "b") [] no_nodes) no_nodes)) ≡ [] }
+    ensures below_nothing_given { box_lines (λ _. None) (pos 0) (pos 0)
+        (element 0 (codes "a") [] (node (element 1 (codes "b") [] no_nodes) no_nodes)) ≡ [] }
 {}
 
 /// What the last accepted edit logged is kept until the next one; what is refused or passed over
@@ -151,48 +153,66 @@ pub fn examples_of_turns()
     ensures at_the_start { start ≡ record { state = None; last = [] } }
     ensures newest_log { newest (((Match, 1) ∷ []) ∷ ((Style, 2) ∷ []) ∷ []) [] ≡ (Style, 2) ∷ [] }
     ensures no_log { newest [] ((Style, 2) ∷ []) ≡ (Style, 2) ∷ [] }
-    ensures blank_leaves { (setting : Setting) (from to : Course) (asked : Asked) (own : List Log) (reply : List ℕ)
+    ensures blank_leaves { (setting : Setting) (from to : Course) (asked : Asked) (own : List Log)
+        (reply : List ℕ)
         → IsAnswered silent setting from asked own reply to → (to ≡ from) × (own ≡ []) × (reply ≡ []) }
-    ensures refused_leaves { (setting : Setting) (from to : Course) (asked : Asked) (own : List Log) (reply : List ℕ) (c : Cause)
+    ensures refused_leaves { (setting : Setting) (from to : Course) (asked : Asked) (own : List Log)
+        (reply : List ℕ) (c : Cause)
         → IsAnswered (refused c) setting from asked own reply to → (to ≡ from) × (reply ≡ error_line c) }
-    ensures query_leaves { (setting : Setting) (from to : Course) (asked : Asked) (own : List Log) (reply : List ℕ) (q : Query)
+    ensures query_leaves { (setting : Setting) (from to : Course) (asked : Asked) (own : List Log)
+        (reply : List ℕ) (q : Query)
         → IsAnswered (accepted (query q)) setting from asked own reply to → to ≡ from }
-    ensures edit_is_the_last { (setting : Setting) (from to : Course) (asked : Asked) (log : Log) (reply : List ℕ) (e : Edit)
+    ensures edit_is_the_last { (setting : Setting) (from to : Course) (asked : Asked) (log : Log)
+        (reply : List ℕ) (e : Edit)
         → IsAnswered (accepted (edit e)) setting from asked (log ∷ []) reply to → to.last ≡ log }
-    ensures refused_edit_logs_nothing { (setting : Setting) (from to : Course) (own : List Log) (reply : List ℕ) (c : Cause) (e : Edit)
+    ensures refused_edit_logs_nothing { (setting : Setting) (from to : Course) (own : List Log)
+        (reply : List ℕ) (c : Cause) (e : Edit)
         → IsAnswered (refused c) setting from (request (edit e)) own reply to → own ≡ [] ∷ [] }
     ensures nothing_is_counted { (setting : Setting) (from : Course) (q : Request) (a : Option Assignment)
         → IsLogOf setting from q a [] }
-    ensures logs_are_empty { (setting : Setting) (from : Course) (q : Request) (a : Option Assignment) (log : Log)
+    ensures logs_are_empty { (setting : Setting) (from : Course) (q : Request)
+        (a : Option Assignment) (log : Log)
         → IsLogOf setting from q a log → log ≡ [] }
-    ensures edit_leads { (setting : Setting) (from to : Course) (asked : Asked) (own : List Log) (reply : List ℕ) (e : Edit)
-        → IsAnswered (accepted (edit e)) setting from asked own reply to → to.state ≡ state_after_edit from.state e }
-    ensures edit_says { (setting : Setting) (from to : Course) (asked : Asked) (own : List Log) (reply : List ℕ) (e : Edit)
+    ensures edit_leads { (setting : Setting) (from to : Course) (asked : Asked) (own : List Log)
+        (reply : List ℕ) (e : Edit)
+        → IsAnswered (accepted (edit e)) setting from asked own reply to
+        → to.state ≡ state_after_edit from.state e }
+    ensures edit_says { (setting : Setting) (from to : Course) (asked : Asked) (own : List Log)
+        (reply : List ℕ) (e : Edit)
         → IsAnswered (accepted (edit e)) setting from asked own reply to
         → reply ≡ edit_text (brings_tree e) (accepted_by from.state e) }
-    ensures edit_logs_once { (setting : Setting) (from to : Course) (asked : Asked) (own : List Log) (reply : List ℕ) (e : Edit)
+    ensures edit_logs_once { (setting : Setting) (from to : Course) (asked : Asked) (own : List Log)
+        (reply : List ℕ) (e : Edit)
         → IsAnswered (accepted (edit e)) setting from asked own reply to → own ≡ [] ∷ [] }
-    ensures dump_logs_nothing { (setting : Setting) (page : Page) (to : Course) (asked : Asked) (own : List Log) (reply : List ℕ)
-        → IsAnswered (accepted (query Dump)) setting (record { state = Some page; last = [] }) asked own reply to → own ≡ [] }
-    ensures dump_says { (setting : Setting) (page : Page) (to : Course) (asked : Asked) (own : List Log) (reply : List ℕ)
-        → IsAnswered (accepted (query Dump)) setting (record { state = Some page; last = [] }) asked own reply to
+    ensures dump_logs_nothing { (setting : Setting) (page : Page) (to : Course) (asked : Asked)
+        (own : List Log) (reply : List ℕ)
+        → IsAnswered (accepted (query Dump)) setting (record { state = Some page; last = [] })
+        asked own reply to → own ≡ [] }
+    ensures dump_says { (setting : Setting) (page : Page) (to : Course) (asked : Asked)
+        (own : List Log) (reply : List ℕ)
+        → IsAnswered (accepted (query Dump)) setting (record { state = Some page; last = [] })
+        asked own reply to
         → (a : Assignment) × Consistent setting page a × (reply ≡ dump_text page.document.root a ++ ok_line) }
-    ensures no_query_of_nothing { (setting : Setting) (from to : Course) (asked : Asked) (own : List Log) (reply : List ℕ) (q : Query)
+    ensures no_query_of_nothing { (setting : Setting) (from to : Course) (asked : Asked)
+        (own : List Log) (reply : List ℕ) (q : Query)
         → from.state ≡ None → IsAnswered (accepted (query q)) setting from asked own reply to → ⊥ }
 {}
 
 /// The replies to a script: each line goes on from where the line before it leads.
 #[tactic(auto, unfolding(crate::specs::Replies::IsTurn, crate::specs::Replies::AreReplies))]
 pub fn examples_of_scripts()
-    ensures no_lines { (setting : Setting) (logs : List Log) (text : List ℕ) → Replies setting [] logs text → (logs ≡ []) × (text ≡ []) }
+    ensures no_lines { (setting : Setting) (logs : List Log) (text : List ℕ)
+        → Replies setting [] logs text → (logs ≡ []) × (text ≡ []) }
     ensures nothing_is_said_of_nothing { (setting : Setting) → Replies setting [] [] [] }
     ensures turn_of_a_remove { (setting : Setting) (to : Course) (own : List Log) (reply : List ℕ)
         → IsTurn setting start (broken NotBuilt) own reply to → reply ≡ error_line NotBuilt }
-    ensures two_lines { (setting : Setting) (from : Course) (first second : List ℕ) (logs : List Log) (text : List ℕ)
+    ensures two_lines { (setting : Setting) (from : Course) (first second : List ℕ)
+        (logs : List Log) (text : List ℕ)
         → asked_of_line first ≡ broken BadJson → asked_of_line second ≡ broken NotBuilt
         → AreReplies setting from (first ∷ second ∷ []) logs text
         → text ≡ error_line BadJson ++ error_line NotBuilt }
-    ensures turn_by_the_state { (setting : Setting) (page : Page) (to : Course) (own : List Log) (reply : List ℕ)
+    ensures turn_by_the_state { (setting : Setting) (page : Page) (to : Course) (own : List Log)
+        (reply : List ℕ)
         → refusal_of (Some page) (query Dump) ≡ None
         → IsTurn setting (record { state = Some page; last = [] }) (request (query Dump)) own reply to
         → (a : Assignment) × (reply ≡ dump_text page.document.root a ++ ok_line) }

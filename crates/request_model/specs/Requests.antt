@@ -84,16 +84,19 @@ load_from members width height doc sheets = None
 
 unfoldable pub load_of : Data → Option Edit
 load_of d =
-    load_from (members d) (number_at (codes "width") d) (number_at (codes "height") d) (doc_at (codes "doc") d)
+    load_from (members d) (number_at (codes "width") d) (number_at (codes "height") d)
+    (doc_at (codes "doc") d)
     (texts_at (codes "sheets") d)
 
 -- an insert of its parts, where the object has no other member
 abbrev pub insert_from : ℕ → Option ℕ → Option ℕ → Option Tree → Option Edit
-insert_from members (Some parent) (Some index) (Some new) = if members == 4 then Some (insert parent index new) else None
+insert_from members (Some parent) (Some index) (Some new) =
+    if members == 4 then Some (insert parent index new) else None
 insert_from members parent index new = None
 
 unfoldable pub insert_of : Data → Option Edit
-insert_of d = insert_from (members d) (number_at (codes "parent") d) (number_at (codes "index") d) (tree_at (codes "tree") d)
+insert_of d = insert_from (members d) (number_at (codes "parent") d) (number_at (codes "index") d)
+    (tree_at (codes "tree") d)
 
 -- a remove of its id, where the object has no other member
 abbrev pub remove_from : ℕ → Option ℕ → Option Edit
@@ -118,7 +121,8 @@ request_named name d =
 abbrev pub names_not_built : List (List ℕ)
 names_not_built =
     codes "sheet" ∷ codes "rules" ∷ codes "match" ∷ codes "style"
-    ∷ codes "resize" ∷ codes "move" ∷ codes "set-attr" ∷ codes "drop-attr" ∷ codes "set-text" ∷ codes "counts" ∷ []
+    ∷ codes "resize" ∷ codes "move" ∷ codes "set-attr" ∷ codes "drop-attr" ∷ codes "set-text"
+    ∷ codes "counts" ∷ []
 
 unfoldable pub is_name_not_built : List ℕ → Bool
 is_name_not_built name = list_any (bytes_eq name) names_not_built
@@ -139,7 +143,8 @@ asked_by (Some q) = request q
 -- what an object asks for whose member `do` has this value, if that is a string; a name that is not built is refused whatever else the object has
 abbrev pub asked_under : Option (List ℕ) → Data → Asked
 asked_under None d = broken BadRequest
-asked_under (Some name) d = if is_name_not_built name then broken NotBuilt else asked_by (request_named name d)
+asked_under (Some name) d =
+    if is_name_not_built name then broken NotBuilt else asked_by (request_named name d)
 
 -- the value that a line's bytes are in JSON, if they are in UTF-8 (RFC 8259 section 8.1)
 unfoldable pub value_of : List ℕ → Option Data
@@ -152,4 +157,5 @@ asked_of (Some d) = asked_under (string_at (codes "do") d) d
 -- what a line asks for: its length is looked at first, and then whether it is blank
 unfoldable pub asked_of_line : List ℕ → Asked
 asked_of_line line =
-    if is_too_long line then broken LineTooLong else (if is_blank line then nothing else asked_of (value_of line))
+    if is_too_long line then broken LineTooLong
+    else (if is_blank line then nothing else asked_of (value_of line))

@@ -23,7 +23,8 @@ is_empty (x ∷ xs) = false
 -- a tree of `div` elements alone, without an attribute
 abbrev mutual
   pub is_plain : Tree → Bool
-  is_plain (elem name attributes kids) = bytes_eq name (codes "div") && (is_empty attributes && are_plain kids)
+  is_plain (elem name attributes kids) = bytes_eq name (codes "div")
+      && (is_empty attributes && are_plain kids)
   is_plain (characters text) = false
 
   pub are_plain : Trees → Bool
@@ -32,7 +33,8 @@ abbrev mutual
 
 -- the forms of a request in the grammar that are not built yet; they are refused before what is loaded is looked at
 abbrev pub form_causes : Request → Causes
-form_causes (edit (load width height doc sheets)) = (is_some sheets, NotBuilt) ∷ (not (is_plain doc), NotBuilt) ∷ []
+form_causes (edit (load width height doc sheets)) = (is_some sheets, NotBuilt)
+    ∷ (not (is_plain doc), NotBuilt) ∷ []
 form_causes (edit (insert parent index new)) = (not (is_plain new), NotBuilt) ∷ []
 form_causes (edit (remove id)) = []
 form_causes (query q) = []
@@ -65,13 +67,19 @@ refusal_of s q = first_of (form_causes q ++ request_causes s q)
 
 -- the same sheets and viewport, with another document
 abbrev pub with_document : (Document → Document) → Page → Page
-with_document change page = record { document = change page.document; sheets = page.sheets; viewport = page.viewport }
+with_document change page =
+    record { document = change page.document; sheets = page.sheets; viewport = page.viewport }
 
 -- what is loaded after an edit that is not refused
 abbrev pub state_after_edit : State → Edit → State
 state_after_edit s (load width height doc sheets) =
-    Some (record { document = document doc; sheets = unwrap_or sheets []; viewport = record { width = width; height = height } })
-state_after_edit s (insert parent index new) = option_map (with_document (document_after_insert parent index new)) s
+    Some (record {
+      document = document doc;
+      sheets = unwrap_or sheets [];
+      viewport = record { width = width; height = height };
+    })
+state_after_edit s (insert parent index new) =
+    option_map (with_document (document_after_insert parent index new)) s
 state_after_edit s (remove id) = option_map (with_document (document_after_remove id)) s
 
 -- the id that the next new node gets

@@ -17,24 +17,36 @@ ghost use Rattle.serde_json.specs.Data.{string, array, object, number, item, no_
 /// side of the viewport before the document.
 #[tactic(auto, unfolding(crate::specs::States::refusal_of))]
 pub fn examples_of_causes()
-    ensures not_built_before_side { refusal_of None (edit (load 10001 1 (elem (codes "p") [] no_trees) None)) ≡ Some NotBuilt }
-    ensures text_not_built { refusal_of None (edit (load 1 1 (elem (codes "div") [] (tree (characters []) no_trees)) None))
+    ensures not_built_before_side { refusal_of None
+        (edit (load 10001 1 (elem (codes "p") [] no_trees) None)) ≡ Some NotBuilt }
+    ensures text_not_built { refusal_of None
+        (edit (load 1 1 (elem (codes "div") [] (tree (characters []) no_trees)) None))
         ≡ Some NotBuilt }
-    ensures attribute_not_built { refusal_of None (edit (load 1 1 (elem (codes "div") ((codes "a", []) ∷ []) no_trees) None))
+    ensures attribute_not_built { refusal_of None
+        (edit (load 1 1 (elem (codes "div") ((codes "a", []) ∷ []) no_trees) None))
         ≡ Some NotBuilt }
-    ensures sheets_not_built { refusal_of None (edit (load 1 1 (elem (codes "div") [] no_trees) (Some []))) ≡ Some NotBuilt }
-    ensures side { refusal_of None (edit (load 1 10001 (elem (codes "div") [] no_trees) None)) ≡ Some ViewportRange }
-    ensures other_side { refusal_of None (edit (load 10001 1 (elem (codes "div") [] no_trees) None)) ≡ Some ViewportRange }
-    ensures greatest_sides { refusal_of None (edit (load 10000 10000 (elem (codes "div") [] no_trees) None)) ≡ None }
-    ensures not_built_before_not_loaded { refusal_of None (edit (insert 0 0 (characters []))) ≡ Some NotBuilt }
-    ensures insert_not_loaded { refusal_of None (edit (insert 0 0 (elem (codes "div") [] no_trees))) ≡ Some NotLoaded }
+    ensures sheets_not_built { refusal_of None
+        (edit (load 1 1 (elem (codes "div") [] no_trees) (Some []))) ≡ Some NotBuilt }
+    ensures side { refusal_of None (edit (load 1 10001 (elem (codes "div") [] no_trees) None))
+        ≡ Some ViewportRange }
+    ensures other_side { refusal_of None (edit (load 10001 1 (elem (codes "div") [] no_trees) None))
+        ≡ Some ViewportRange }
+    ensures greatest_sides { refusal_of None
+        (edit (load 10000 10000 (elem (codes "div") [] no_trees) None)) ≡ None }
+    ensures not_built_before_not_loaded { refusal_of None (edit (insert 0 0 (characters [])))
+        ≡ Some NotBuilt }
+    ensures insert_not_loaded { refusal_of None (edit (insert 0 0 (elem (codes "div") [] no_trees)))
+        ≡ Some NotLoaded }
     ensures remove_not_loaded { refusal_of None (edit (remove 0)) ≡ Some NotLoaded }
     ensures dump_not_loaded { refusal_of None (query Dump) ≡ Some NotLoaded }
-    ensures dump_loaded { refusal_of (state_after_edit None (load 1 1 (elem (codes "div") [] no_trees) None)) (query Dump)
+    ensures dump_loaded { refusal_of (state_after_edit None
+        (load 1 1 (elem (codes "div") [] no_trees) None)) (query Dump)
         ≡ None }
-    ensures no_node { refusal_of (state_after_edit None (load 1 1 (elem (codes "div") [] no_trees) None)) (edit (remove 1))
+    ensures no_node { refusal_of (state_after_edit None (load 1 1 (elem (codes "div") [] no_trees)
+        None)) (edit (remove 1))
         ≡ Some NoNode }
-    ensures is_root { refusal_of (state_after_edit None (load 1 1 (elem (codes "div") [] no_trees) None)) (edit (remove 0))
+    ensures is_root { refusal_of (state_after_edit None (load 1 1 (elem (codes "div") [] no_trees)
+        None)) (edit (remove 0))
         ≡ Some IsRoot }
     ensures bad_index { refusal_of (state_after_edit None (load 1 1 (elem (codes "div") [] no_trees) None))
         (edit (insert 0 1 (elem (codes "div") [] no_trees)))
@@ -42,7 +54,8 @@ pub fn examples_of_causes()
     ensures later_child_not_built { refusal_of None (edit (load 1 1 (elem (codes "div") []
         (tree (elem (codes "div") [] no_trees) (tree (elem (codes "p") [] no_trees) no_trees))) None))
         ≡ Some NotBuilt }
-    ensures side_before_limits { (doc : Tree) → first_of (edit_causes None (load 10001 1 doc None)) ≡ Some ViewportRange }
+    ensures side_before_limits { (doc : Tree)
+        → first_of (edit_causes None (load 10001 1 doc None)) ≡ Some ViewportRange }
 {}
 
 /// A request has exactly the members of its kind; a name that is known and not built is refused
@@ -53,28 +66,36 @@ pub fn examples_of_requests()
     ensures not_an_object { asked_of (Some (array no_items)) ≡ broken BadRequest }
     ensures no_do { asked_of (Some (object no_members)) ≡ broken BadRequest }
     ensures do_is_null { asked_of (Some (object (member (codes "do") null no_members))) ≡ broken BadRequest }
-    ensures unknown { asked_of (Some (object (member (codes "do") (string (codes "fly")) no_members))) ≡ broken BadRequest }
-    ensures not_built { asked_of (Some (object (member (codes "do") (string (codes "resize")) no_members))) ≡ broken NotBuilt }
-    ensures not_built_with_others { asked_of (Some (object (member (codes "a") null (member (codes "do") (string (codes "set-attr")) no_members))))
+    ensures unknown { asked_of (Some (object (member (codes "do") (string (codes "fly"))
+        no_members))) ≡ broken BadRequest }
+    ensures not_built { asked_of (Some (object (member (codes "do") (string (codes "resize"))
+        no_members))) ≡ broken NotBuilt }
+    ensures not_built_with_others { asked_of (Some (object (member (codes "a") null
+        (member (codes "do") (string (codes "set-attr")) no_members))))
         ≡ broken NotBuilt }
     ensures dump { asked_of (Some (object (member (codes "do") (string (codes "dump")) no_members)))
         ≡ request (query Dump) }
-    ensures dump_with_another { asked_of (Some (object (member (codes "do") (string (codes "dump")) (member (codes "id") null no_members))))
+    ensures dump_with_another { asked_of (Some (object (member (codes "do") (string (codes "dump"))
+        (member (codes "id") null no_members))))
         ≡ broken BadRequest }
     ensures removes { asked_of (Some (object (member (codes "do") (string (codes "remove"))
         (member (codes "id") (number (unsigned 7)) no_members))))
         ≡ request (edit (remove 7)) }
-    ensures remove_without_id { asked_of (Some (object (member (codes "do") (string (codes "remove")) no_members))) ≡ broken BadRequest }
+    ensures remove_without_id { asked_of (Some (object (member (codes "do")
+        (string (codes "remove")) no_members))) ≡ broken BadRequest }
     ensures inserts { asked_of (Some (object (member (codes "do") (string (codes "insert"))
         (member (codes "index") (number (unsigned 2)) (member (codes "parent") (number (unsigned 1))
         (member (codes "tree") (string (codes "x")) no_members))))))
         ≡ request (edit (insert 1 2 (characters (chars (codes "x"))))) }
-    ensures text_is_no_document { asked_of (Some (object (member (codes "do") (string (codes "load")) (member (codes "doc") (string (codes "x"))
-        (member (codes "height") (number (unsigned 2)) (member (codes "width") (number (unsigned 1)) no_members))))))
+    ensures text_is_no_document { asked_of (Some (object (member (codes "do")
+        (string (codes "load")) (member (codes "doc") (string (codes "x"))
+        (member (codes "height") (number (unsigned 2)) (member (codes "width") (number (unsigned 1))
+        no_members))))))
         ≡ broken BadRequest }
     ensures loads { asked_of (Some (object (member (codes "do") (string (codes "load"))
         (member (codes "doc") (array (item (string (codes "a")) no_items))
-        (member (codes "height") (number (unsigned 2)) (member (codes "width") (number (unsigned 1)) no_members))))))
+        (member (codes "height") (number (unsigned 2)) (member (codes "width") (number (unsigned 1))
+        no_members))))))
         ≡ request (edit (load 1 2 (elem (chars (codes "a")) [] no_trees) None)) }
     ensures loads_sheets { asked_of (Some (object (member (codes "do") (string (codes "load"))
         (member (codes "doc") (array (item (string (codes "a")) no_items))
@@ -100,23 +121,28 @@ pub fn examples_of_requests()
     ensures names_built { list_any is_name_not_built
         (codes "load" ∷ codes "insert" ∷ codes "remove" ∷ codes "dump" ∷ [])
         ≡ false }
-    ensures insert_with_another { asked_of (Some (object (member (codes "a") null (member (codes "do") (string (codes "insert"))
+    ensures insert_with_another { asked_of (Some (object (member (codes "a") null
+        (member (codes "do") (string (codes "insert"))
         (member (codes "index") (number (unsigned 2)) (member (codes "parent") (number (unsigned 1))
         (member (codes "tree") (string (codes "x")) no_members)))))))
         ≡ broken BadRequest }
-    ensures remove_with_another { asked_of (Some (object (member (codes "a") null (member (codes "do") (string (codes "remove"))
+    ensures remove_with_another { asked_of (Some (object (member (codes "a") null
+        (member (codes "do") (string (codes "remove"))
         (member (codes "id") (number (unsigned 7)) no_members)))))
         ≡ broken BadRequest }
-    ensures load_with_another { asked_of (Some (object (member (codes "a") null (member (codes "do") (string (codes "load"))
+    ensures load_with_another { asked_of (Some (object (member (codes "a") null
+        (member (codes "do") (string (codes "load"))
         (member (codes "doc") (array (item (string (codes "a")) no_items))
-        (member (codes "height") (number (unsigned 2)) (member (codes "width") (number (unsigned 1)) no_members)))))))
+        (member (codes "height") (number (unsigned 2)) (member (codes "width") (number (unsigned 1))
+        no_members)))))))
         ≡ broken BadRequest }
     ensures loads_two_sheets { asked_of (Some (object (member (codes "do") (string (codes "load"))
         (member (codes "doc") (array (item (string (codes "a")) no_items))
         (member (codes "height") (number (unsigned 2))
         (member (codes "sheets") (array (item (string (codes "s")) (item (string (codes "t")) no_items)))
         (member (codes "width") (number (unsigned 1)) no_members)))))))
-        ≡ request (edit (load 1 2 (elem (chars (codes "a")) [] no_trees) (Some (chars (codes "s") ∷ chars (codes "t") ∷ [])))) }
+        ≡ request (edit (load 1 2 (elem (chars (codes "a")) [] no_trees) (Some (chars (codes "s")
+        ∷ chars (codes "t") ∷ [])))) }
 {}
 
 /// What lines leave: a load replaces all, its sheets included; a refused request and a query leave
@@ -130,13 +156,15 @@ pub fn examples_of_states()
           viewport = record { width = 3; height = 4 };
         }) }
     ensures before_a_load { next_id None ≡ 0 }
-    ensures load_gives { accepted_by None (load 3 4 (elem (codes "a") [] (tree (characters []) no_trees)) None)
+    ensures load_gives { accepted_by None
+        (load 3 4 (elem (codes "a") [] (tree (characters []) no_trees)) None)
         ≡ record { first = 0; count = 2 } }
     ensures insert_gives { accepted_by (state_after_edit None (load 3 4 (elem (codes "a") [] no_trees) None))
         (insert 0 0 (elem (codes "a") [] (tree (characters []) no_trees)))
         ≡ record { first = 1; count = 2 } }
     ensures remove_gives { accepted_by None (remove 5) ≡ record { first = 0; count = 0 } }
-    ensures refused_remove { answer_to (state_after_edit None (load 3 4 (elem (codes "a") [] no_trees) None)) (request (edit (remove 0)))
+    ensures refused_remove { answer_to (state_after_edit None
+        (load 3 4 (elem (codes "a") [] no_trees) None)) (request (edit (remove 0)))
         ≡ refused IsRoot }
     ensures blank_is_silent { answer_to None nothing ≡ silent }
     ensures broken_is_refused { answer_to None (broken BadJson) ≡ refused BadJson }
@@ -146,19 +174,22 @@ pub fn examples_of_states()
     ensures insert_brings { brings_tree (insert 0 0 (characters [])) ≡ true }
     ensures remove_brings_none { brings_tree (remove 0) ≡ false }
     ensures load_replaces { state_after_edit
-        (state_after_edit None (load 3 4 (elem (codes "a") [] (tree (characters []) no_trees)) (Some (codes "s" ∷ []))))
+        (state_after_edit None (load 3 4 (elem (codes "a") [] (tree (characters []) no_trees))
+        (Some (codes "s" ∷ []))))
         (load 5 6 (elem (codes "b") [] no_trees) None)
         ≡ Some (record {
           document = record { root = element 0 (codes "b") [] no_nodes; next_id = 1 };
           sheets = [];
           viewport = record { width = 5; height = 6 };
         }) }
-    ensures load_counts_anew { accepted_by (state_after_edit None (load 3 4 (elem (codes "a") [] no_trees) None))
+    ensures load_counts_anew { accepted_by (state_after_edit None
+        (load 3 4 (elem (codes "a") [] no_trees) None))
         (load 5 6 (elem (codes "b") [] no_trees) None)
         ≡ record { first = 0; count = 1 } }
     ensures inserted_between { state_after_edit
         (state_after_edit None (load 3 4 (elem (codes "a") []
-        (tree (elem (codes "b") [] (tree (characters []) no_trees)) (tree (elem (codes "c") [] no_trees) no_trees)))
+        (tree (elem (codes "b") [] (tree (characters []) no_trees))
+        (tree (elem (codes "c") [] no_trees) no_trees)))
         (Some (codes "s" ∷ []))))
         (insert 0 1 (elem (codes "d") [] (tree (characters []) no_trees)))
         ≡ Some (record {
@@ -174,13 +205,15 @@ pub fn examples_of_states()
         }) }
     ensures removed_below { state_after_edit
         (state_after_edit None (load 3 4 (elem (codes "a") []
-        (tree (elem (codes "b") [] (tree (characters []) no_trees)) (tree (elem (codes "c") [] no_trees) no_trees)))
+        (tree (elem (codes "b") [] (tree (characters []) no_trees))
+        (tree (elem (codes "c") [] no_trees) no_trees)))
         (Some (codes "s" ∷ []))))
         (remove 2)
         ≡ Some (record {
           document = record {
             root = element 0 (codes "a") []
-                (node (element 1 (codes "b") [] no_nodes) (node (element 3 (codes "c") [] no_nodes) no_nodes));
+                (node (element 1 (codes "b") [] no_nodes)
+                (node (element 3 (codes "c") [] no_nodes) no_nodes));
             next_id = 4;
           };
           sheets = codes "s" ∷ [];

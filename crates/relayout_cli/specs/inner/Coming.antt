@@ -18,7 +18,8 @@ IsAtEnd r source = r.stopped ≡ Some End → NothingLeft (ahead r.pending sourc
 abbrev pub TakesPart : Reader → SourceState → SourceState → Type 0
 TakesPart reader old new =
     (reader.stopped ≡ None)
-    × FromTo (ahead reader.pending old.left) new.left (λ all rest. (part : List ℕ) × IsUnbroken part × (all ≡ part ++ rest))
+    × FromTo (ahead reader.pending old.left) new.left (λ all rest. (part : List ℕ) × IsUnbroken part
+    × (all ≡ part ++ rest))
 
 -- a line was read that asks for this
 pub record AsksNext (asked : Asked) (old new : Reader) (before after : SourceState) : Type 0 where
@@ -41,7 +42,8 @@ Comes coming.Failed old new before after =
 Comes coming.Spent old new before after =
     (new.taken ≡ MAX_TAKEN) × TakesPart old before after × (after.faults ≡ before.faults)
 Comes coming.NoMemory old new before after =
-    FromTo (ahead old.pending before.left) (ahead new.pending after.left) (λ all rest. (front : List ℕ) × (all ≡ front ++ rest))
+    FromTo (ahead old.pending before.left) (ahead new.pending after.left)
+    (λ all rest. (front : List ℕ) × (all ≡ front ++ rest))
     × (after.faults ≡ before.faults)
 
 -- bytes were taken, as many as the reader and the source say

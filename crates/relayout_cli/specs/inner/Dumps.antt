@@ -8,4 +8,5 @@ use Rattle.reply_model.specs.DumpText.{dump_text}
 
 -- the dump by an assignment that is consistent
 abbrev pub IsDumpOf : Setting → Page → List ℕ → Type 0
-IsDumpOf setting page reply = (a : Assignment) × Consistent setting page a × (reply ≡ dump_text page.document.root a ++ ok_line)
+IsDumpOf setting page reply = (a : Assignment) × Consistent setting page a
+    × (reply ≡ dump_text page.document.root a ++ ok_line)

@@ -20,7 +20,8 @@ empty_logs (suc n) = [] ∷ empty_logs n
 -- from each place that what was kept stands for, the turn with these logs and this reply leads to one that what is kept stands for
 abbrev pub IsResponse : Asked → List Log → List ℕ → Option Page → Option Page → Type 0
 IsResponse asked own reply old new =
-    (setting : Setting) (from : Course) → IsAt old from → (to : Course) × IsTurn setting from asked own reply to × IsAt new to
+    (setting : Setting) (from : Course) → IsAt old from
+    → (to : Course) × IsTurn setting from asked own reply to × IsAt new to
 
 -- what a turn changes of the outside
 pub record Outcome : Type 0 where
@@ -45,9 +46,11 @@ pub record Begins (asked : Asked) (old new : Outcome) : Type 0 where
 -- what answering a line does, by how the turn ended
 abbrev pub Turns : Turn → Asked → Option Page → Option Page → Outcome → Outcome → Type 0
 Turns turn.Answered asked page page' old new =
-    (r : Responds asked page page' old new) × Appends old.sink.held new.sink.held r.reply × (new.sink.faults ≡ old.sink.faults)
+    (r : Responds asked page page' old new) × Appends old.sink.held new.sink.held r.reply
+    × (new.sink.faults ≡ old.sink.faults)
 Turns turn.Failed asked page page' old new =
-    (r : Responds asked page page' old new) × AppendsPart old.sink.held new.sink.held r.reply × CountsFault old.sink.faults new.sink.faults
+    (r : Responds asked page page' old new) × AppendsPart old.sink.held new.sink.held r.reply
+    × CountsFault old.sink.faults new.sink.faults
 Turns turn.NoMemory asked page page' old new = Begins asked old new × (new.sink ≡ old.sink)
 
 -- what writing a reply does to the sink
