@@ -118,7 +118,7 @@ mod tests {
         let copy = token.copy(rt.alloc())?;
         assert_eq!(rt; copy.number(), None);
         assert_eq!(rt; copy.is_id(), true);
-        match copy.token_type {
+        match &copy.token_type {
             TokenType::Hash { name, .. } => assert_eq!(rt; name.as_str(), "a"),
             _ => assert!(rt; false, "not a hash"),
         }
