@@ -8,3 +8,5 @@ pub mod Renamed
 pub mod Lists
 pub mod Written
 pub mod Hooked
+pub mod Kept
+pub mod Releases

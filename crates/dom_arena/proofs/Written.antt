@@ -1,12 +1,15 @@
 -- What slots say after one of them was written.
 use Rattle.std.proofs.Common.{List, None, Option, Some, ap, eqb-true, inl, inr, length, option_and_then, option_map, refl, slice_get, sym, unwrap_or, ℕ, ◌==◌, ◌∙◌, ◌≡◌}
 use Rattle.std.proofs.lemmas.Bool.{cases_Bool, eqb-false}
+use Rattle.std.proofs.lemmas.Option.{none-some, same_Some}
 use Rattle.dom_arena.proofs.Lists.{get-set-other, get-set-same, get-within, length-slice_set}
 use Rattle.dom_arena.specs.Cells.{Body, Place}
-use Rattle.dom_arena.specs.Slots.{body_at, body_in, content_at, id_at, place_at, place_in}
+use Rattle.dom_arena.specs.Slots.{body_at, body_in, content_at, id_at, own_in, place_at, place_in, target}
 use Rattle.dom_arena.specs.Writes.{changed}
-use Rattle.dom_arena.specs.declared.slot.Slot.{Slot}
 use Rattle.page_laws.proofs.Options.{none-or-some}
+use Rattle.page_model.specs.Document.{Node, first}
+use Rattle.page_model.specs.Trees.{size}
+use Rattle.dom_arena.specs.declared.slot.Slot.{Slot}
 
 pub get-changed-here : (x : ℕ) (f : Slot → Slot) (slots : List Slot) → slice_get (changed x f slots) x ≡ option_map f (slice_get slots x)
 get-changed-here x f slots = elim (none-or-some (slice_get slots x)) [
@@ -76,3 +79,22 @@ place-elsewhere x j f slots h = ap (option_map place_in) (get-changed-other x j 
 
 pub body-elsewhere : (x j : ℕ) (f : Slot → Slot) (slots : List Slot) → (j ≡ x → ⊥) → body_at (changed x f slots) j ≡ body_at slots j
 body-elsewhere x j f slots h = ap (option_and_then (body_in j)) (get-changed-other x j f slots h)
+
+-- ---- the parts of a body
+
+pub body-parts : (x : ℕ) (s : Slot) (b : Body) → body_in x s ≡ Some b → (own_in x s.content ≡ Some b.own) × (target s.first ≡ b.first) × (target s.last ≡ b.last) × (s.children ≡ b.count) × (s.size ≡ b.size)
+body-parts x s b e = by-own (own_in x s.content) e
+  where
+    by-own : (o : Option Node) → option_map (λ own. record { own = own; first = target s.first; last = target s.last; count = s.children; size = s.size }) o ≡ Some b
+        → (o ≡ Some b.own) × (target s.first ≡ b.first) × (target s.last ≡ b.last) × (s.children ≡ b.count) × (s.size ≡ b.size)
+    by-own None e = absurd (none-some b e)
+    by-own (Some n) e =
+        let same = same_Some _ b e in
+        (ap (λ (c : Body). Some c.own) same, ap (λ (c : Body). c.first) same, ap (λ (c : Body). c.last) same, ap (λ (c : Body). c.count) same, ap (λ (c : Body). c.size) same)
+
+-- the body in a slot that is there
+pub body-read : (slots : List Slot) (x : ℕ) (s : Slot) (b : Body) → slice_get slots x ≡ Some s → body_at slots x ≡ Some b → body_in x s ≡ Some b
+body-read slots x s b at e = sym (ap (option_and_then (body_in x)) at) ∙ e
+
+pub body-unread : (slots : List Slot) (x : ℕ) (b : Body) → slice_get slots x ≡ None → body_at slots x ≡ Some b → ⊥
+body-unread slots x b at e = none-some b (sym (ap (option_and_then (body_in x)) at) ∙ e)

@@ -8,3 +8,4 @@ pub mod Faults
 pub mod Stores
 pub mod Views
 pub mod Writes
+pub mod Built

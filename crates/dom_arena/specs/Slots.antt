@@ -47,3 +47,12 @@ table_at table i = option_and_then target (slice_get table i)
 
 abbrev pub content_at : List Slot → ℕ → Option Content
 content_at slots x = option_map (λ (s : Slot). s.content) (slice_get slots x)
+
+-- the link to the first child, and the number of children
+abbrev pub first_link : Option Slot → Link
+first_link None = record { raw = 4294967295 }
+first_link (Some s) = s.first
+
+abbrev pub child_number : Option Slot → ℕ
+child_number None = 0
+child_number (Some s) = s.children

@@ -5,6 +5,7 @@ mod attrs;
 mod fault;
 mod link;
 mod links;
+mod release;
 mod slot;
 mod store;
 mod tree;
