@@ -17,13 +17,6 @@ use Rattle.dom_arena.specs.declared.slot.Content.{Content}
 use Rattle.dom_arena.specs.declared.slot.Content.TheVariants.{Chars, Element, Free}
 use Rattle.dom_arena.specs.declared.slot.Slot.{Slot}
 
--- whether a node stands there
-abbrev pub is_node : Option Content → Bool
-is_node None = false
-is_node (Some (Element name attributes)) = true
-is_node (Some (Chars cs)) = true
-is_node (Some (Free next)) = false
-
 live-content : (x : ℕ) (c : Content) (s : Slot) → is_some {T = Body} (option_map (λ own. record { own = own; first = target s.first; last = target s.last; count = s.children; size = s.size }) (own_in x c)) ≡ is_node (Some c)
 live-content x (Element name attributes) s = refl
 live-content x (Chars cs) s = refl

@@ -1,5 +1,6 @@
 -- What a list of slots says.
-use Rattle.std.specs.Prelude.{◌≡◌, ℕ, ◌==◌, List, [], Option, Some, None, IsSome, slice_get, if◌then◌else◌, option_map, option_and_then, unwrap_or}
+use Rattle.std.specs.Prelude.{◌≡◌, ℕ, ◌==◌, List, [], Bool, true, false, Option, Some, None, IsSome, slice_get, if◌then◌else◌, option_map, option_and_then, unwrap_or}
+use Rattle.page_model.specs.Trees.{Tree, elem, characters, no_trees}
 use Rattle.page_model.specs.Document.{Node, element, text, no_nodes}
 use Rattle.dom_arena.specs.declared.link.Link.{Link}
 use Rattle.dom_arena.specs.declared.slot.Slot.{Slot}
@@ -56,3 +57,22 @@ first_link (Some s) = s.first
 abbrev pub child_number : Option Slot → ℕ
 child_number None = 0
 child_number (Some s) = s.children
+
+abbrev pub last_link : Option Slot → Link
+last_link None = record { raw = 4294967295 }
+last_link (Some s) = s.last
+
+-- ---- contents
+
+-- whether a node stands there
+abbrev pub is_node : Option Content → Bool
+is_node None = false
+is_node (Some (Element name attributes)) = true
+is_node (Some (Chars cs)) = true
+is_node (Some (Free next)) = false
+
+-- the tree of a content, without children
+abbrev pub tree_of_content : Content → Tree
+tree_of_content (Element name attributes) = elem name attributes no_trees
+tree_of_content (Chars cs) = characters cs
+tree_of_content (Free next) = characters []

@@ -2,6 +2,8 @@
 #![tactic(auto)]
 
 mod attrs;
+mod build;
+mod counts;
 mod fault;
 mod link;
 mod links;

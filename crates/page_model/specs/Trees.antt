@@ -1,5 +1,5 @@
 -- Trees of elements and texts before they get ids.
-use Rattle.std.specs.List.{list_any, sum_by}
+use Rattle.std.specs.List.{list_any}
 use Rattle.std.specs.Prelude.{Bool, List, [], false, length, max, nat_lt, not, suc, true, ℕ, ◌+◌, ◌||◌, ◌∷◌}
 use Rattle.page_model.specs.Names.{is_name}
 use Rattle.page_model.specs.declared.limits.TheConstants.{MAX_ATTRIBUTES, MAX_TEXT}
@@ -51,7 +51,8 @@ abbrev mutual
 
 -- how many code points the values of these attributes have together
 abbrev pub value_size : List Attribute → ℕ
-value_size attributes = sum_by (λ (a : Attribute). length a.1) attributes
+value_size [] = 0
+value_size (a ∷ attributes) = length a.1 + value_size attributes
 
 -- how many code points its texts and the values of its attributes have together
 abbrev mutual
