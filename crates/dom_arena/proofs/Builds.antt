@@ -1,4 +1,38 @@
 -- The building of trees.
+use Rattle.std.proofs.Common.{IsSome, List, None, Option, Some, [], ap, arith, drop, eq-eqb, eqb-true, inl, inr, is_some, length, length-append, map, option_and_then, option_map, refl, slice_get, subst, suc, sym, take, true, unwrap_or, ℕ, ◌++◌, ◌+◌, ◌<◌, ◌==◌, ◌∙◌, ◌∷◌, ◌≡◌, ◌≤◌}
+use Rattle.std.proofs.lemmas.Bool.{cases_Bool, eqb-false, false≢true}
+use Rattle.std.proofs.lemmas.Option.{none-some, same_Some}
+use Rattle.dom_arena.proofs.Attached.{Attaches, among-drop, among-take, linked-attached}
+use Rattle.dom_arena.proofs.Chains.{end-among, front-among}
+use Rattle.dom_arena.proofs.Hooked.{Relinked, attaches, relinked-attached}
+use Rattle.dom_arena.proofs.Kept.{alone-live, get-spot, get-spot-other, live-same, live-slot-same, live-small, live-within, spot-dead, store-relinked, store-with}
+use Rattle.dom_arena.proofs.Lists.{length-push}
+use Rattle.dom_arena.proofs.Releases.{id-slot, linked-live, linked-slots, node-length, place-slot, slot-of-body}
+use Rattle.dom_arena.proofs.Renamed.{children-renamed, id_of-renamed, ids-renamed, inserted-renamed, name_of-renamed, rename-same}
+use Rattle.dom_arena.proofs.Written.{body-parts, get-changed-other}
+use Rattle.dom_arena.specs.Built.{Built, Restored}
+use Rattle.dom_arena.specs.Cells.{AreChained, AreLinked, IsLinked, body_of, final, front}
+use Rattle.dom_arena.specs.Rename.{IsAlone, rename}
+use Rattle.dom_arena.specs.Slots.{IsLive, body_at, body_in, cells_of, id_at, is_node, last_link, own_in, place_at, place_in, target, tree_of_content}
+use Rattle.dom_arena.specs.Stores.{IsStore, Kept, kept_with, leaf, link_to, no_link, slots_with, spot}
+use Rattle.dom_arena.specs.Writes.{attached, back, changed, forward, one_more, with_first, with_last, with_next, with_place, with_prev}
+use Rattle.page_laws.proofs.Find.{among-top, child-below, find-top}
+use Rattle.page_laws.proofs.Options.{if-found}
+use Rattle.page_laws.proofs.ParentOf.{child-lower}
+use Rattle.page_laws.proofs.Siblings.{children-distinct}
+use Rattle.page_laws.proofs.Spliced.{spliced-among, spliced-part, spliced-rest}
+use Rattle.page_laws.proofs.TreeAfterInsert.{id_of-inserted, spliced-inserted}
+use Rattle.page_laws.proofs.WithIds.{distinct-with_ids, node_count-with_ids}
+use Rattle.page_laws.specs.Ids.{AreApart, FitsBelow}
+use Rattle.page_model.specs.Document.{AreDistinct, IsAmong, Node, Nodes, all_ids, all_with_ids, children_of, element, find, first, id_of, ids, ids_of, name_of, no_nodes, node, text, with_ids}
+use Rattle.page_model.specs.Edits.{tree_after_insert, with_child}
+use Rattle.page_model.specs.Trees.{Attribute, Text, Tree, Trees, depth, depths, elem, size, sizes, text_size, text_sizes, tree, trees_of, value_size}
+use Rattle.page_model.specs.declared.limits.TheConstants.{MAX_NODES}
+use Rattle.port_core.specs.Reader.{fresh}
+use Rattle.dom_arena.specs.declared.link.Link.{Link}
+use Rattle.dom_arena.specs.declared.slot.Content.{Content}
+use Rattle.dom_arena.specs.declared.slot.Content.TheVariants.{Chars, Element, Free}
+use Rattle.dom_arena.specs.declared.slot.Slot.{Slot}
 
 -- ---- a node without children
 
@@ -107,6 +141,7 @@ map-distinct f [] d = tt
 map-distinct f (x ∷ xs) d = (λ a. d.0 (map-among f x xs a), map-distinct f xs d.1)
   where
     map-among : (f : ℕ → ℕ) (x : ℕ) (xs : List ℕ) → IsAmong x xs → IsAmong (f x) (map f xs)
+    map-among f x [] h = absurd h
     map-among f x (y ∷ ys) (inl e) = inl (ap f e)
     map-among f x (y ∷ ys) (inr a) = inr (map-among f x ys a)
 
@@ -182,6 +217,32 @@ name-with f n name attributes ts m e = ap is_some (sym (name_of-renamed f m)) �
 top-found : (p : ℕ) (m : Node) → id_of m ≡ p → find p m ≡ Some m
 top-found p m e = subst (λ (q : ℕ). find q m ≡ Some m) e (find-top m)
 
+children-count : (n : Node) → length (ids_of (children_of n)) ≤ length (ids n)
+children-count (element id name attributes children) = let rest = tops-count children in omega (arith, rest)
+  where
+    tops-count : (ns : Nodes) → length (ids_of ns) ≤ length (all_ids ns)
+    tops-count no_nodes = omega arith
+    tops-count (node n ns) =
+        let rest = tops-count ns in
+        omega (arith, rest, length-append (ids n) (all_ids ns), node-length n)
+children-count (text id cs) = omega arith
+
+pub built-count : (a b : Kept) (t : Tree) (s : ℕ) (r : Built a b t s) → length (ids r.built) ≤ b.live
+built-count a b t s r =
+    let same : length (map (id_at b.slots) (ids r.built)) ≡ length (ids (with_ids (length a.table) t)) = ap length (sym (ids-renamed (id_at b.slots) r.built) ∙ ap ids r.tree) in
+    omega (arith, same, map-length (id_at b.slots) (ids r.built), node_count-with_ids (length a.table) t, r.live)
+
+child-numbers : (f : ℕ → ℕ) (n : ℕ) (name : Text) (attributes : List Attribute) (ts : List Tree) (m : Node) → rename f m ≡ with_ids n (elem name attributes (trees_of ts)) → length (ids_of (children_of m)) ≡ length ts
+child-numbers f n name attributes ts m e =
+    sym (map-length f (ids_of (children_of m))) ∙ (ap length (sym (children-renamed f m)) ∙ (ap (λ x. length (ids_of (children_of x))) e ∙ with_ids-length (suc n) ts))
+
+at-top : (f : ℕ → ℕ) (n : ℕ) (name : Text) (attributes : List Attribute) (ts : Trees) (m : Node) (p : ℕ) → id_of m ≡ p → rename f m ≡ with_ids n (elem name attributes ts) → f p ≡ n
+at-top f n name attributes ts m p at e = ap f (sym at) ∙ (sym (id_of-renamed f m) ∙ ap id_of e)
+
+with_ids-child : (n : ℕ) (name : Text) (attributes : List Attribute) (ts : List Tree) (t : Tree)
+    → tree_after_insert n (length ts) (with_ids (suc n + sizes (trees_of ts)) t) (with_ids n (elem name attributes (trees_of ts))) ≡ with_ids n (elem name attributes (trees_of (ts ++ t ∷ [])))
+with_ids-child n name attributes ts t = rw (eq-eqb n n refl) (ap (element n name attributes) (sym (with_ids-push (suc n) ts t)))
+
 pub built-child : (a b c : Kept) (name : Text) (attributes : List Attribute) (ts : List Tree) (t : Tree) (p x : ℕ)
     → Built a b (elem name attributes (trees_of ts)) p → Built b c t x
     → Built a (record c { slots = attached p x (last_link (slice_get c.slots p)) no_link c.slots }) (elem name attributes (trees_of (ts ++ t ∷ []))) p
@@ -205,24 +266,73 @@ built-child a b c name attributes ts t p x r s =
     let tree_b : rename f m ≡ with_ids (length a.table) (elem name attributes (trees_of ts)) =
     rename-same f (id_at b.slots) m (λ j h. id-slot b.slots c.slots j (s.same j (old_live j h))) ∙ r.tree in
     let named : IsSome (name_of m) = name-with f (length a.table) name attributes (trees_of ts) m tree_b in
-    let body : body_at c.slots p ≡ Some (body_with (by_itself m) (xs ++ []) (own_text_size m)) =
-    ap (body_at c.slots) (sym r.at) ∙ ((lm p m fm).0 ∙ ap (λ ys. Some (body_with (by_itself m) ys (own_text_size m))) (sym (append-nil xs))) in
-    let slot = slot-of-body c.slots p _ body in
-    let is_last : target last ≡ final None xs = ap (λ o. target (last_link o)) slot.1 ∙ ((body-parts p slot.0 _ slot.2).2 ∙ ap (final None) (append-nil xs)) in
-    let none : target no_link ≡ None = refl in
+    let body : body_at c.slots p ≡ Some (body_of m) = ap (body_at c.slots) (sym r.at) ∙ (lm p m fm).0 in
+    let slot = slot-of-body c.slots p (body_of m) body in
+    let is_last : target last ≡ final None xs = ap (λ o. target (last_link o)) slot.1 ∙ (body-parts p slot.0 (body_of m) slot.2).2 in
     let child : (j : ℕ) → final None xs ≡ Some j → IsAmong j (ids m) = λ j e. child-below j m (end-among j xs e) in
     let not_x : (j : ℕ) → IsAmong j (ids m) → j ≡ x → ⊥ = λ j h e. apart x x_among (subst (λ (q : ℕ). IsAmong q (ids m)) e h) in
     let not_prev : target last ≡ Some x → ⊥ = λ e. not_x x (child x (sym is_last ∙ e)) refl in
-    let few : length xs ≤ length c.slots = few-children c m xs s.store live (λ j h. child-below j m h) (children-distinct m dm) in
-    let hooks : Hooks (place_at c.slots) (place_at slots) p x (final None xs) (front [] None) =
-    subst (λ (o : Option ℕ). Hooks (place_at c.slots) (place_at slots) p x o (front [] None)) is_last
-    (hooked c.slots p x last no_link (live-within c.slots x (new_live x x_among)) (live-small c x s.store (new_live x x_among)) (live-small c p s.store (live p p_among)) not_prev (λ e. none-some x e) (λ j e q. none-some j q)) in
+    let whole : length (ids m) ≤ b.live = built-count a b _ p r in
+    let few : length xs < 4294967295 = omega (arith, children-count m, whole, s.live, s.store.count, s.store.few) in
     let k : ℕ = length xs in
-    let ends : take k xs ≡ xs = take-whole xs in
-    let empty : drop k xs ≡ [] = drop-whole xs in
-    let writes : Attaches (cells_of c.slots) (cells_of slots) p k new m = record {
-      hooks = λ j. record {};
-      body = refl;
-      others = λ j h. refl;
-    } in
-    ?
+    let writes : Attaches (cells_of c.slots) (cells_of slots) p k new m =
+    attaches c.slots p x k last no_link new m (sym s.at) (live-within c.slots x (new_live x x_among)) (live-small c x s.store (new_live x x_among)) (live-small c p s.store (live p p_among)) few
+    (is_last ∙ ap (final None) (sym (take-whole xs))) (ap (λ ys. front ys None) (sym (drop-whole xs))) body
+    (λ j h. not_x j (child-below j m h)) (children-distinct m dm) in
+    let all : AreLinked (cells_of slots) (tree_after_insert p k new m) = linked-attached (cells_of c.slots) (cells_of slots) m new m p k dm dn apart fm named writes lm s.linked in
+    let relinked : Relinked c.slots slots = relinked-attached c.slots p x last no_link in
+    let g : ℕ → ℕ = id_at slots in
+    let fits : FitsBelow p new m = record { distinct = dm; new_distinct = dn; apart = apart; element = ap (λ o. is_some (option_and_then name_of o)) fm ∙ named } in
+    let spliced = spliced-inserted p k new m fits in
+    let alone : IsAlone f p (ids m) = alone-live c p (ids m) s.store (live p p_among) live in
+    let same_ids : rename g (tree_after_insert p k new m) ≡ rename f (tree_after_insert p k new m) = rename-same g f (tree_after_insert p k new m) (λ j h. relinked.ids j) in
+    let count : k ≡ length ts = child-numbers f (length a.table) name attributes ts m tree_b in
+    let given : length b.table ≡ suc (length a.table) + sizes (trees_of ts) = omega (arith, r.given) in
+    let place_p : place_at slots p ≡ place_at c.slots p =
+    writes.hooks.others p (λ e. not_x p p_among (e ∙ s.at)) (λ e. child-lower p p m m dm fm (among-take p k xs (end-among p (take k xs) e)) (sym r.at))
+    (λ e. child-lower p p m m dm fm (among-drop p k xs (front-among p (drop k xs) e)) (sym r.at)) in
+    record {
+      store = store-relinked c slots relinked s.store;
+      built = tree_after_insert p k new m;
+      at = id_of-inserted p k new m ∙ r.at;
+      linked = all;
+      top = place_p ∙ (place-slot b.slots c.slots p (s.same p (old_live p p_among)) ∙ r.top);
+      tree =
+          same_ids ∙ (inserted-renamed f p k new m alone
+          ∙ ((λ j. tree_after_insert (at-top f (length a.table) name attributes (trees_of ts) m p r.at tree_b j) (count j) ((s.tree ∙ ap (λ n. with_ids n t) given) j) (tree_b j))
+          ∙ with_ids-child (length a.table) name attributes ts t));
+      fresh = λ j h l. elim (spliced-among j (ids (tree_after_insert p k new m)) (ids new) (ids m) spliced h) [
+        | inl q ↦ s.fresh j q (built-old a b _ p r j l)
+        | inr q ↦ r.fresh j q l
+      ];
+      same = λ j l.
+          let out_m : IsAmong j (ids m) → ⊥ = λ q. r.fresh j q l in
+          let out_n : IsAmong j (ids new) → ⊥ = λ q. s.fresh j q (built-old a b _ p r j l) in
+          attached-slot c.slots p x j last no_link (λ e. out_m (subst (λ (q : ℕ). IsAmong q (ids m)) (sym e) p_among)) (λ e. out_n (subst (λ (q : ℕ). IsAmong q (ids new)) (sym e) x_among))
+          (λ e. out_m (child j (sym is_last ∙ e))) (λ e. none-some j e)
+          ∙ (s.same j (built-old a b _ p r j l) ∙ r.same j l);
+      only = λ j l.
+          let was : IsLive c.slots j = live-same slots c.slots j (sym (relinked.contents j)) l in
+          elim (s.only j was) [
+            | inl q ↦ elim (r.only j q) [
+              | inl v ↦ inl v
+              | inr v ↦ inr (spliced-rest j (ids (tree_after_insert p k new m)) (ids new) (ids m) spliced v)
+            ]
+            | inr q ↦ inr (spliced-part j (ids (tree_after_insert p k new m)) (ids new) (ids m) spliced q)
+          ];
+      given = s.given ∙ omega (arith, r.given, sizes-append ts t []);
+      live = omega (arith, r.live, s.live, sizes-append ts t []);
+      code_points = omega (arith, r.code_points, s.code_points, points-append ts t []);
+    }
+
+-- ---- where memory runs out
+
+pub restored-same : (a b : Kept) → IsStore a → b ≡ a → Restored a b
+restored-same a b s e = subst (Restored a) (sym e) (record {
+  store = s;
+  same = λ x h. refl;
+  only = λ x h. h;
+  given = omega arith;
+  live = refl;
+  code_points = refl;
+})

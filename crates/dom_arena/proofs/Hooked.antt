@@ -1,16 +1,22 @@
 -- The places and bodies after a node was hung below another, and after it was taken from there.
-use Rattle.std.proofs.Common.{List, None, Option, Some, [], ap, append-nil, arith, length, min, ne_eqb, option_map, refl, sym, ℕ, ◌++◌, ◌+◌, ◌-◌, ◌<◌, ◌∙◌, ◌∷◌, ◌≡◌}
+use Rattle.std.proofs.Common.{List, None, Option, Some, [], ap, append-nil, arith, drop, inr, length, min, ne_eqb, option_map, refl, subst, sym, take, ℕ, ◌++◌, ◌+◌, ◌-◌, ◌<◌, ◌∙◌, ◌∷◌, ◌≡◌}
+use Rattle.std.proofs.lemmas.List.{take-append-drop}
 use Rattle.std.proofs.lemmas.Option.{none-some, same_Some}
+use Rattle.dom_arena.proofs.Attached.{Attaches, among-drop, among-take}
+use Rattle.dom_arena.proofs.Chains.{end-among, front-among}
+use Rattle.dom_arena.proofs.Detached.{Detaches}
 use Rattle.dom_arena.proofs.Lists.{get-some}
 use Rattle.dom_arena.proofs.Written.{body-changed, body-elsewhere, body-written, content-changed, get-changed-here, id-changed, length-changed, place-changed, place-elsewhere, place-written}
-use Rattle.dom_arena.specs.Cells.{Body, Hooks, Unhooks, body_with, final, front, with_after, with_before}
-use Rattle.dom_arena.specs.Slots.{body_at, content_at, id_at, own_in, place_at, place_in, target}
+use Rattle.dom_arena.specs.Cells.{Body, Hooks, Unhooks, body_of, body_with, final, front, with_after, with_before}
+use Rattle.dom_arena.specs.Slots.{body_at, cells_of, content_at, id_at, own_in, place_at, place_in, target}
 use Rattle.dom_arena.specs.Stores.{link_to}
 use Rattle.dom_arena.specs.Writes.{attached, back, changed, detached, forward, one_fewer, one_more, with_first, with_last, with_next, with_place, with_prev}
+use Rattle.page_laws.proofs.IsAmong.{distinct-apart}
+use Rattle.page_laws.specs.Limits.{own_text_size}
+use Rattle.page_model.specs.Document.{AreDistinct, IsAmong, Node, after, before, by_itself, children_of, first, id_of, ids_of}
+use Rattle.page_model.specs.Trees.{size}
 use Rattle.dom_arena.specs.declared.link.Link.{Link}
 use Rattle.dom_arena.specs.declared.slot.Slot.{Slot}
-use Rattle.page_model.specs.Document.{Node, after, before, first}
-use Rattle.page_model.specs.Trees.{size}
 
 pub target-to : (x : ℕ) → x < 4294967295 → target (link_to x) ≡ Some x
 target-to x h = rw (ne_eqb x 4294967295 (λ e. omega (arith, e, h))) refl
@@ -270,4 +276,45 @@ relinked-detached slots p prev next =
       ids = λ j. id-changed p j one_fewer S3 (λ s. refl) ∙ (back-id p j (target next) prev S2 ∙ forward-id p j (target prev) next slots);
       contents = λ j. content-changed p j one_fewer S3 (λ s. refl) ∙ (back-content p j (target next) prev S2 ∙ forward-content p j (target prev) next slots);
       slots = length-changed p one_fewer S3 ∙ (back-length p (target next) prev S2 ∙ forward-length p (target prev) next slots);
+    }
+
+-- ---- as the lemmas on trees want it
+
+pub attaches : (slots : List Slot) (p t k : ℕ) (prev next : Link) (new x : Node) → t ≡ id_of new → t < length slots → t < 4294967295 → p < 4294967295 → length (ids_of (children_of x)) < 4294967295
+    → target prev ≡ final None (take k (ids_of (children_of x))) → target next ≡ front (drop k (ids_of (children_of x))) None → body_at slots p ≡ Some (body_of x)
+    → ((j : ℕ) → IsAmong j (ids_of (children_of x)) → j ≡ t → ⊥) → AreDistinct (ids_of (children_of x)) → Attaches (cells_of slots) (cells_of (attached p t prev next slots)) p k new x
+attaches slots p t k prev next new x is within small small_p few is_prev is_next body out d =
+    let list : List ℕ = ids_of (children_of x) in
+    let xs : List ℕ = take k list in
+    let ys : List ℕ = drop k list in
+    let whole : xs ++ ys ≡ list = take-append-drop k list in
+    let both : AreDistinct (xs ++ ys) = subst AreDistinct (sym whole) d in
+    let not_prev : target prev ≡ Some t → ⊥ = λ e. out t (among-take t k list (end-among t xs (sym is_prev ∙ e))) refl in
+    let not_next : target next ≡ Some t → ⊥ = λ e. out t (among-drop t k list (front-among t ys (sym is_next ∙ e))) refl in
+    let apart : (j : ℕ) → target prev ≡ Some j → target next ≡ Some j → ⊥ = λ j e q. distinct-apart j xs ys both (end-among j xs (sym is_prev ∙ e)) (front-among j ys (sym is_next ∙ q)) in
+    let h : Hooks (place_at slots) (place_at (attached p t prev next slots)) p t (target prev) (target next) = hooked slots p t prev next within small small_p not_prev not_next apart in
+    record {
+      hooks =
+          subst (λ (o : Option ℕ). Hooks (place_at slots) (place_at (attached p t prev next slots)) p (id_of new) o (front ys None)) is_prev
+          (subst (λ (o : Option ℕ). Hooks (place_at slots) (place_at (attached p t prev next slots)) p (id_of new) (target prev) o) is_next
+          (subst (λ (q : ℕ). Hooks (place_at slots) (place_at (attached p t prev next slots)) p q (target prev) (target next)) is h));
+      body =
+          hooked-body slots p t (own_text_size x) prev next (by_itself x) xs ys small (omega (arith, few, ap length whole)) is_prev is_next
+          (body ∙ ap (λ zs. Some (body_with (by_itself x) zs (own_text_size x))) (sym whole))
+          ∙ ap (λ q. Some (body_with (by_itself x) (xs ++ q ∷ ys) (own_text_size x))) is;
+      others = λ j ne. hooked-bodies slots p t j prev next ne;
+    }
+
+pub detaches : (slots : List Slot) (p i : ℕ) (prev next : Link) (x : Node) (xs ys : List ℕ) → ids_of (children_of x) ≡ xs ++ i ∷ ys → AreDistinct (ids_of (children_of x))
+    → target prev ≡ final None xs → target next ≡ front ys None → body_at slots p ≡ Some (body_of x) → Detaches (cells_of slots) (cells_of (detached p prev next slots)) p i x xs ys
+detaches slots p i prev next x xs ys list d is_prev is_next body =
+    let both : AreDistinct (xs ++ i ∷ ys) = subst AreDistinct list d in
+    let apart : (j : ℕ) → target prev ≡ Some j → target next ≡ Some j → ⊥ = λ j e q. distinct-apart j xs (i ∷ ys) both (end-among j xs (sym is_prev ∙ e)) (inr (front-among j ys (sym is_next ∙ q))) in
+    record {
+      list = list;
+      unhooks =
+          subst (λ (o : Option ℕ). Unhooks (place_at slots) (place_at (detached p prev next slots)) i o (front ys None)) is_prev
+          (subst (λ (o : Option ℕ). Unhooks (place_at slots) (place_at (detached p prev next slots)) i (target prev) o) is_next (unhooked slots p i prev next apart));
+      body = unhooked-body slots p i (own_text_size x) prev next (by_itself x) xs ys is_prev is_next (body ∙ ap (λ zs. Some (body_with (by_itself x) zs (own_text_size x))) list);
+      others = λ j ne. unhooked-bodies slots p j prev next ne;
     }

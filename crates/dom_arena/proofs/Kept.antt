@@ -1,12 +1,12 @@
 -- What is kept stays in order.
-use Rattle.std.proofs.Common.{Bool, List, None, Option, Some, [], ap, arith, eqb-true, false, inl, inr, is_some, length, max, option_and_then, option_map, refl, slice_get, slice_set, subst, suc, sym, true, unwrap_or, ℕ, ◌++◌, ◌+◌, ◌<◌, ◌==◌, ◌∙◌, ◌∷◌, ◌≡◌, ◌≤◌, ◌⊎◌}
+use Rattle.std.proofs.Common.{List, None, Option, Some, [], ap, arith, eqb-true, inl, inr, is_some, length, max, option_and_then, option_map, refl, slice_get, slice_set, subst, suc, sym, true, unwrap_or, ℕ, ◌++◌, ◌+◌, ◌<◌, ◌==◌, ◌∙◌, ◌∷◌, ◌≡◌, ◌≤◌, ◌⊎◌}
 use Rattle.std.proofs.lemmas.Bool.{cases_Bool, cases_lt, eqb-false, false≢true}
 use Rattle.std.proofs.lemmas.Option.{none-some, same_Some}
 use Rattle.dom_arena.proofs.Hooked.{Relinked, target-to}
 use Rattle.dom_arena.proofs.Lists.{get-append, get-end, get-past, get-set-other, get-set-same, get-some, get-within, length-push, length-slice_set, push-cases}
 use Rattle.dom_arena.specs.Cells.{Body}
 use Rattle.dom_arena.specs.Rename.{IsAlone}
-use Rattle.dom_arena.specs.Slots.{IsLive, body_at, body_in, content_at, id_at, own_in, table_at, target}
+use Rattle.dom_arena.specs.Slots.{IsLive, body_at, body_in, content_at, id_at, is_node, own_in, table_at, target}
 use Rattle.dom_arena.specs.Stores.{FreeChain, IsStore, Kept, free_behind, freed, kept_with, kept_without, leaf, link_to, next_free, no_link, slots_with, slots_without, spot}
 use Rattle.page_laws.proofs.Options.{none-or-some}
 use Rattle.page_model.specs.Document.{AreDistinct, IsAmong, first, ids}
@@ -285,3 +285,11 @@ store-without k x s h one =
       few = omega (arith, s.few, len);
     }
 
+
+-- the first free slot is there
+pub free-within : (k : Kept) (x : ℕ) → IsStore k → target k.free ≡ Some x → x < length k.slots
+free-within k x s e = by-free s.free s.chain
+  where
+    by-free : (xs : List ℕ) → FreeChain k.slots (target k.free) xs → x < length k.slots
+    by-free [] c = absurd (none-some x (sym c ∙ e))
+    by-free (y ∷ ys) c = chain-within k.slots (target k.free) (y ∷ ys) x c (inl (same_Some x y (sym e ∙ c.0)))

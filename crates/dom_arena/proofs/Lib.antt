@@ -10,3 +10,4 @@ pub mod Written
 pub mod Hooked
 pub mod Kept
 pub mod Releases
+pub mod Builds

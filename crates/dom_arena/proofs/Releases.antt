@@ -13,13 +13,13 @@ use Rattle.dom_arena.specs.Found.{AreFound}
 use Rattle.dom_arena.specs.Slots.{IsLive, body_at, body_in, cells_of, child_number, first_link, id_at, own_in, place_at, place_in, target}
 use Rattle.dom_arena.specs.Stores.{Kept, freed, kept_without, no_link, size_in, slots_without}
 use Rattle.dom_arena.specs.Writes.{back}
-use Rattle.dom_arena.specs.declared.link.Link.{Link}
 use Rattle.page_laws.proofs.Find.{among-find, among-top, find-id, find-top, find-within, some-among}
 use Rattle.page_laws.proofs.IsAmong.{among-left, among-right, among-split, distinct-apart, distinct-left, distinct-right}
 use Rattle.page_laws.proofs.Options.{none-or-some, some-is}
 use Rattle.page_laws.specs.Limits.{own_text_size}
 use Rattle.page_model.specs.Document.{AreDistinct, IsAmong, Node, Nodes, after, all_ids, all_without_ids, children_of, element, find, first, height, heights, id_of, ids, ids_of, no_nodes, node, nodes_of, text, without_ids}
 use Rattle.page_model.specs.Trees.{size, text_size, text_sizes}
+use Rattle.dom_arena.specs.declared.link.Link.{Link}
 use Rattle.dom_arena.specs.declared.slot.Slot.{Slot}
 
 -- ---- siblings
@@ -258,7 +258,7 @@ ids-node : (n : Node) (x : ℕ) → (x ≡ id_of n) ⊎ IsAmong x (all_ids (chil
 ids-node (element id name attributes children) x a = a
 ids-node (text id cs) x a = a
 
-node-length : (n : Node) → length (ids n) ≡ suc (length (all_ids (children_of n)))
+pub node-length : (n : Node) → length (ids n) ≡ suc (length (all_ids (children_of n)))
 node-length (element id name attributes children) = refl
 node-length (text id cs) = refl
 
@@ -306,7 +306,7 @@ branch-released a b x levels n br r0 =
 pub branch-body : (k : Kept) (x levels : ℕ) (n : Node) → IsBranch k x levels n → body_at k.slots x ≡ Some (body_of n)
 branch-body k x levels n b = ap (body_at k.slots) (sym b.at) ∙ (b.linked (id_of n) n (find-top n)).0
 
-slot-of-body : (slots : List Slot) (x : ℕ) (b : Body) → body_at slots x ≡ Some b → (s : Slot) × (slice_get slots x ≡ Some s) × (body_in x s ≡ Some b)
+pub slot-of-body : (slots : List Slot) (x : ℕ) (b : Body) → body_at slots x ≡ Some b → (s : Slot) × (slice_get slots x ≡ Some s) × (body_in x s ≡ Some b)
 slot-of-body slots x b e = elim (none-or-some (slice_get slots x)) [
   | inl none ↦ absurd (body-unread slots x b none e)
   | inr some ↦ (some.0, some.1, body-read slots x some.0 b some.1 e)

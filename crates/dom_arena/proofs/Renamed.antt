@@ -135,7 +135,7 @@ pub before-renamed : (f : ℕ → ℕ) (x : ℕ) (last : Option ℕ) (ys : List 
 before-renamed f x last [] h = refl
 before-renamed f x last (y ∷ ys) h = rw (alone-here f x y ys h, before-renamed f x (Some y) ys (alone-rest f x y ys h)) (map-if-id f (x == y) last (before x (Some y) ys))
 
-children-renamed : (f : ℕ → ℕ) (n : Node) → ids_of (children_of (rename f n)) ≡ map f (ids_of (children_of n))
+pub children-renamed : (f : ℕ → ℕ) (n : Node) → ids_of (children_of (rename f n)) ≡ map f (ids_of (children_of n))
 children-renamed f (element id name attributes children) = ids_of-renamed f children
 children-renamed f (text id cs) = refl
 

@@ -65,7 +65,10 @@ fn add(store: &mut Store, content: Content, size: u32) -> Result<u32, NoMemory>
     ensures built { IfOk result (λ at. Built (kept store.old) (kept store.new) (tree_of_content content) at) }
     ensures restored { OnErr result (Restored (kept store.old) (kept store.new)) }
 {
-    store.fresh(content, size)
+    match store.fresh(content, size) {
+        Ok(at) => Ok(at),
+        Err(fault) => Err(fault),
+    }
 }
 
 /// Builds a tree; returns the slot of its root, which hangs nowhere. Where memory runs out, what was
