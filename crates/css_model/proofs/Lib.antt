@@ -1,4 +1,5 @@
 pub mod Tests
+pub mod Singles
 pub mod Runs
 pub mod PartLemmas
 pub mod Laws
@@ -17,12 +18,4 @@ pub mod NumberBounds
 pub mod NumberSizes
 pub mod Units
 pub mod NumberPieces
-pub mod Meets
-pub mod Branches
-pub mod NamesAlike
-pub mod NumbersAlike
-pub mod StringsAlike
-pub mod Alone
-pub mod OnePiece
-pub mod OneTokenList
 pub mod Nesting

@@ -1,24 +1,32 @@
--- The computed components of tokens are components of them, and the only ones.
+-- The computed component values of tokens are component values of them.
 use Rattle.std.proofs.Common.{◌≡◌, ◌∙◌, sym, ap, refl, subst, inl, inr, List, [], ◌∷◌, ◌++◌, drop, Option, Some, None, true, false, append_assoc, append-nil}
 use Rattle.std.proofs.lemmas.Bool.{cases_Bool}
 use Rattle.std.specs.Option.{is_some}
 use Rattle.css_model.specs.Classes.{Text}
-use Rattle.css_model.specs.Tokens.{Bracket, round, square, curly, Kind, function, opening, closing, Token}
-use Rattle.css_model.specs.Components.{Component, one, block, call, Components, no_components, component, tokens_of, all_tokens_of, close_tokens, opened_by, is_same, closes, IsClosed, IsNested, AreNested, IsComponents}
-use Rattle.css_model.specs.Nesting.{is_function, bracketed, innermost, Levels, levels, contents_of, alone, closed, enclosed, levels_of, nesting, followed, onto}
+use Rattle.css_model.specs.declared.token.Bracket.{Bracket}
+use Rattle.css_model.specs.declared.token.Bracket.TheVariants.{Round, Square, Curly}
+use Rattle.css_model.specs.declared.token.Token.{Token}
+use Rattle.css_model.specs.declared.token.TokenType.{TokenType}
+use Rattle.css_model.specs.declared.token.TokenType.TheVariants.{Function, Opening, Closing}
+use Rattle.css_model.specs.Components.{preserved, simple_block, function_block, Components, no_components, component, tokens_of, all_tokens_of, close_tokens, opened_by, is_same_bracket, closes, IsClosed, IsNested, AreNested, IsComponents}
+use Rattle.css_model.specs.inner.Nesting.{is_function, bracketed, innermost, Levels, levels, contents_of, alone, closed, enclosed, levels_of, nesting, followed, onto}
 
 -- ---- one token in front
 
-pub levels-opening : (heads : List Token) (t : Token) (ts : List Token) → is_some (opened_by t.kind) ≡ true → levels_of heads (t ∷ ts) ≡ enclosed t (levels_of (t ∷ heads) ts)
+pub levels-opening : (heads : List Token) (t : Token) (ts : List Token)
+    → is_some (opened_by t.token_type) ≡ true
+    → levels_of heads (t ∷ ts) ≡ enclosed t (levels_of (t ∷ heads) ts)
 unfolding levels_of
 levels-opening heads t ts e = rw e refl
 
-pub levels-closing : (heads : List Token) (t : Token) (ts : List Token) → is_some (opened_by t.kind) ≡ false → closes (innermost heads) t.kind ≡ true
+pub levels-closing : (heads : List Token) (t : Token) (ts : List Token)
+    → is_some (opened_by t.token_type) ≡ false → closes (innermost heads) t.token_type ≡ true
     → levels_of heads (t ∷ ts) ≡ closed t (levels_of (drop 1 heads) ts)
 unfolding levels_of
 levels-closing heads t ts e c = rw (e, c) refl
 
-pub levels-alone : (heads : List Token) (t : Token) (ts : List Token) → is_some (opened_by t.kind) ≡ false → closes (innermost heads) t.kind ≡ false
+pub levels-alone : (heads : List Token) (t : Token) (ts : List Token)
+    → is_some (opened_by t.token_type) ≡ false → closes (innermost heads) t.token_type ≡ false
     → levels_of heads (t ∷ ts) ≡ alone t (levels_of heads ts)
 unfolding levels_of
 levels-alone heads t ts e c = rw (e, c) refl
@@ -29,24 +37,19 @@ levels-end heads = refl
 
 -- ---- brackets
 
-is_same-refl : (b : Bracket) → is_same b b ≡ true
-is_same-refl round = refl
-is_same-refl square = refl
-is_same-refl curly = refl
+is_same_bracket-is : (b d : Bracket) → is_same_bracket b d ≡ true → d ≡ b
+is_same_bracket-is Round Round e = refl
+is_same_bracket-is Square Square e = refl
+is_same_bracket-is Curly Curly e = refl
+is_same_bracket-is Round Square e = cc
+is_same_bracket-is Round Curly e = cc
+is_same_bracket-is Square Round e = cc
+is_same_bracket-is Square Curly e = cc
+is_same_bracket-is Curly Round e = cc
+is_same_bracket-is Curly Square e = cc
 
-is_same-is : (b d : Bracket) → is_same b d ≡ true → d ≡ b
-is_same-is round round e = refl
-is_same-is square square e = refl
-is_same-is curly curly e = refl
-is_same-is round square e = cc
-is_same-is round curly e = cc
-is_same-is square round e = cc
-is_same-is square curly e = cc
-is_same-is curly round e = cc
-is_same-is curly square e = cc
-
-closes-is : (b : Bracket) (k : Kind) → closes (Some b) k ≡ true → k ≡ closing b
-closes-is b (closing d) e = ap closing (is_same-is b d e)
+closes-is : (b : Bracket) (k : TokenType) → closes (Some b) k ≡ true → k ≡ Closing b
+closes-is b (Closing d) e = ap Closing (is_same_bracket-is b d e)
 closes-is b other e = cc
 
 none-of : (o : Option Bracket) → is_some o ≡ false → o ≡ None
@@ -68,8 +71,9 @@ alone-tokens t (levels contents outside) = refl
 closed-tokens : (t : Token) (l : Levels) → tokens_in (closed t l) ≡ t ∷ tokens_in l
 closed-tokens t (levels contents outside) = refl
 
-bracketed-tokens : (head : Token) (contents : Components) (close : Option Token) → tokens_of (bracketed head contents close) ≡ head ∷ (all_tokens_of contents ++ close_tokens close)
-bracketed-tokens head contents close = elim (cases_Bool (is_function head.kind)) [
+bracketed-tokens : (head : Token) (contents : Components) (close : Option Token)
+    → tokens_of (bracketed head contents close) ≡ head ∷ (all_tokens_of contents ++ close_tokens close)
+bracketed-tokens head contents close = elim (cases_Bool (is_function head.token_type)) [
   | inl t ↦ rw t refl
   | inr f ↦ rw f refl
 ]
@@ -77,69 +81,108 @@ bracketed-tokens head contents close = elim (cases_Bool (is_function head.kind))
 enclosed-tokens : (head : Token) (l : Levels) → tokens_in (enclosed head l) ≡ head ∷ tokens_in l
 enclosed-tokens head (levels contents []) =
     let inside : List Token = all_tokens_of contents ++ [] in
-    rw (bracketed-tokens head contents None) (append-nil ((head ∷ inside) ++ []) ∙ append-nil (head ∷ inside))
-enclosed-tokens head (levels contents (level ∷ outside)) = rw (bracketed-tokens head contents (Some level.0)) (simp append_assoc refl)
+    rw (bracketed-tokens head contents None)
+    (append-nil ((head ∷ inside) ++ []) ∙ append-nil (head ∷ inside))
+enclosed-tokens head (levels contents (level ∷ outside)) =
+    rw (bracketed-tokens head contents (Some level.0)) (simp append_assoc refl)
 
 levels-joined : (heads ts : List Token) → tokens_in (levels_of heads ts) ≡ ts
 levels-joined heads [] = rw (levels-end heads) refl
-levels-joined heads (t ∷ ts) = elim (cases_Bool (is_some (opened_by t.kind))) [
-  | inl o ↦ rw (levels-opening heads t ts o, enclosed-tokens) (ap (λ xs. t ∷ xs) (levels-joined (t ∷ heads) ts))
-  | inr o ↦ elim (cases_Bool (closes (innermost heads) t.kind)) [
-    | inl c ↦ rw (levels-closing heads t ts o c, closed-tokens) (ap (λ xs. t ∷ xs) (levels-joined (drop 1 heads) ts))
+levels-joined heads (t ∷ ts) = elim (cases_Bool (is_some (opened_by t.token_type))) [
+  | inl o ↦ rw (levels-opening heads t ts o, enclosed-tokens)
+      (ap (λ xs. t ∷ xs) (levels-joined (t ∷ heads) ts))
+  | inr o ↦ elim (cases_Bool (closes (innermost heads) t.token_type)) [
+    | inl c ↦ rw (levels-closing heads t ts o c, closed-tokens)
+        (ap (λ xs. t ∷ xs) (levels-joined (drop 1 heads) ts))
     | inr c ↦ rw (levels-alone heads t ts o c, alone-tokens) (ap (λ xs. t ∷ xs) (levels-joined heads ts))
   ]
 ]
 
 -- ---- the nesting of levels
 
--- each of these closes its bracket, and is followed by what is nested rightly in the bracket around that
+-- each of these closes its bracket, and is followed by what is nested rightly in the bracket around
+-- that
 abbrev OutsideNested : List Token → List (Token × Components) → Type 0
 OutsideNested heads [] = Unit {0}
 OutsideNested [] (level ∷ outside) = ⊥
 OutsideNested (head ∷ heads) (level ∷ outside) =
-    (closes (opened_by head.kind) level.0.kind ≡ true) × AreNested (innermost heads) level.1 (outside_tokens outside) × OutsideNested heads outside
+    (closes (opened_by head.token_type) level.0.token_type ≡ true)
+    × AreNested (innermost heads) level.1 (outside_tokens outside) × OutsideNested heads outside
 
 abbrev LevelsNested : List Token → Levels → Type 0
-LevelsNested heads (levels contents outside) = AreNested (innermost heads) contents (outside_tokens outside) × OutsideNested heads outside
+LevelsNested heads (levels contents outside) =
+    AreNested (innermost heads) contents (outside_tokens outside) × OutsideNested heads outside
 
-bracketed-call : (head : Token) (contents : Components) (close : Option Token) (name : Text) → head.kind ≡ function name → bracketed head contents close ≡ call head contents close
-bracketed-call head contents close name e =
-    let is : is_function head.kind ≡ true = rw e refl in
+pub bracketed-function_block : (head : Token) (contents : Components) (close : Option Token) (name : Text)
+    → head.token_type ≡ Function name → bracketed head contents close ≡ function_block head contents close
+bracketed-function_block head contents close name e =
+    let is : is_function head.token_type ≡ true = rw e refl in
     rw is refl
 
-bracketed-block : (head : Token) (contents : Components) (close : Option Token) (b : Bracket) → head.kind ≡ opening b → bracketed head contents close ≡ block head contents close
-bracketed-block head contents close b e =
-    let is : is_function head.kind ≡ false = rw e refl in
+pub bracketed-simple_block : (head : Token) (contents : Components) (close : Option Token) (b : Bracket)
+    → head.token_type ≡ Opening b → bracketed head contents close ≡ simple_block head contents close
+bracketed-simple_block head contents close b e =
+    let is : is_function head.token_type ≡ false = rw e refl in
     rw is refl
 
-bracketed-kind : (around : Option Bracket) (head : Token) (contents : Components) (close : Option Token) (behind : List Token) (b : Bracket) (k : Kind) → head.kind ≡ k → opened_by k ≡ Some b
-    → AreNested (Some b) contents (close_tokens close ++ behind) → IsClosed b close behind → IsNested around (bracketed head contents close) behind
-bracketed-kind around head contents close behind b (function name) e o n c =
-    let is : round ≡ b = cc in
-    rw (bracketed-call head contents close name e) (name, e, subst (λ (d : Bracket). AreNested (Some d) contents (close_tokens close ++ behind)) (sym is) n, subst (λ (d : Bracket). IsClosed d close behind) (sym is) c)
-bracketed-kind around head contents close behind b (opening d) e o n c =
+bracketed-type : (around : Option Bracket) (head : Token) (contents : Components) (close : Option
+    Token) (behind : List Token) (b : Bracket) (k : TokenType) → head.token_type ≡ k → opened_by k ≡ Some b
+    → AreNested (Some b) contents (close_tokens close ++ behind) → IsClosed b close behind
+    → IsNested around (bracketed head contents close) behind
+bracketed-type around head contents close behind b (Function name) e o n c =
+    let is : Round ≡ b = cc in
+    rw (bracketed-function_block head contents close name e) (
+      name,
+      e,
+      subst (λ (d : Bracket). AreNested (Some d) contents (close_tokens close ++ behind))
+          (sym is) n,
+      subst (λ (d : Bracket). IsClosed d close behind) (sym is) c,
+    )
+bracketed-type around head contents close behind b (Opening d) e o n c =
     let is : d ≡ b = cc in
-    rw (bracketed-block head contents close d e) (b, e ∙ ap opening is, n, c)
-bracketed-kind around head contents close behind b other e o n c = cc
+    rw (bracketed-simple_block head contents close d e) (b, e ∙ ap Opening is, n, c)
+bracketed-type around head contents close behind b other e o n c = cc
 
-bracketed-nested : (around : Option Bracket) (head : Token) (contents : Components) (close : Option Token) (behind : List Token) (b : Bracket) → opened_by head.kind ≡ Some b
-    → AreNested (Some b) contents (close_tokens close ++ behind) → IsClosed b close behind → IsNested around (bracketed head contents close) behind
-bracketed-nested around head contents close behind b o n c = bracketed-kind around head contents close behind b head.kind refl o n c
+bracketed-nested : (around : Option Bracket) (head : Token) (contents : Components) (close : Option
+    Token) (behind : List Token) (b : Bracket) → opened_by head.token_type ≡ Some b
+    → AreNested (Some b) contents (close_tokens close ++ behind) → IsClosed b close behind
+    → IsNested around (bracketed head contents close) behind
+bracketed-nested around head contents close behind b o n c =
+    bracketed-type around head contents close behind b head.token_type refl o n c
 
-alone-nested : (heads : List Token) (t : Token) (l : Levels) → opened_by t.kind ≡ None → closes (innermost heads) t.kind ≡ false → LevelsNested heads l → LevelsNested heads (alone t l)
+alone-nested : (heads : List Token) (t : Token) (l : Levels) → opened_by t.token_type ≡ None
+    → closes (innermost heads) t.token_type ≡ false → LevelsNested heads l → LevelsNested heads (alone t l)
 alone-nested heads t (levels contents outside) o c n = (((o, c), n.0), n.1)
 
-closed-nested : (heads : List Token) (t : Token) (l : Levels) → closes (innermost heads) t.kind ≡ true → LevelsNested (drop 1 heads) l → LevelsNested heads (closed t l)
+closed-nested : (heads : List Token) (t : Token) (l : Levels) → closes (innermost heads) t.token_type ≡ true
+    → LevelsNested (drop 1 heads) l → LevelsNested heads (closed t l)
 closed-nested [] t (levels contents outside) c n = cc
 closed-nested (head ∷ heads) t (levels contents outside) c n = (tt, (c, n.0, n.1))
 
-enclosed-nested : (heads : List Token) (head : Token) (l : Levels) (b : Bracket) → opened_by head.kind ≡ Some b → LevelsNested (head ∷ heads) l → LevelsNested heads (enclosed head l)
-enclosed-nested heads head (levels contents []) b o n =
-    ((bracketed-nested (innermost heads) head contents None [] b o (subst (λ (a : Option Bracket). AreNested a contents []) o n.0) refl, tt), tt)
+enclosed-nested : (heads : List Token) (head : Token) (l : Levels) (b : Bracket)
+    → opened_by head.token_type ≡ Some b → LevelsNested (head ∷ heads) l
+    → LevelsNested heads (enclosed head l)
+enclosed-nested heads head (levels contents []) b o n = (
+  (
+    bracketed-nested (innermost heads) head contents None [] b o
+        (subst (λ (a : Option Bracket). AreNested a contents []) o n.0) refl,
+    tt,
+  ),
+  tt,
+)
 enclosed-nested heads head (levels contents (level ∷ outside)) b o n =
-    let inside = subst (λ (a : Option Bracket). AreNested a contents (level.0 ∷ (all_tokens_of level.1 ++ outside_tokens outside))) o n.0 in
-    let close : level.0.kind ≡ closing b = closes-is b level.0.kind (ap (λ a. closes a level.0.kind) (sym o) ∙ n.1.0) in
-    ((bracketed-nested (innermost heads) head contents (Some level.0) (all_tokens_of level.1 ++ outside_tokens outside) b o inside close, n.1.1), n.1.2)
+    let inside = subst
+    (λ (a : Option Bracket). AreNested a contents
+    (level.0 ∷ (all_tokens_of level.1 ++ outside_tokens outside))) o n.0 in
+    let close : level.0.token_type ≡ Closing b =
+    closes-is b level.0.token_type (ap (λ a. closes a level.0.token_type) (sym o) ∙ n.1.0) in (
+      (
+        bracketed-nested (innermost heads) head contents (Some level.0)
+            (all_tokens_of level.1 ++ outside_tokens outside) b o inside close,
+        n.1.1,
+      ),
+      n.1.2,
+    )
 
 some-of : (o : Option Bracket) → is_some o ≡ true → (b : Bracket) × (o ≡ Some b)
 some-of None e = cc
@@ -147,16 +190,21 @@ some-of (Some b) e = (b, refl)
 
 levels-nested : (heads ts : List Token) → LevelsNested heads (levels_of heads ts)
 levels-nested heads [] = rw (levels-end heads) (tt, tt)
-levels-nested heads (t ∷ ts) = elim (cases_Bool (is_some (opened_by t.kind))) [
-  | inl o ↦ let b = some-of (opened_by t.kind) o in
-      rw (levels-opening heads t ts o) (enclosed-nested heads t (levels_of (t ∷ heads) ts) b.0 b.1 (levels-nested (t ∷ heads) ts))
-  | inr o ↦ elim (cases_Bool (closes (innermost heads) t.kind)) [
-    | inl c ↦ rw (levels-closing heads t ts o c) (closed-nested heads t (levels_of (drop 1 heads) ts) c (levels-nested (drop 1 heads) ts))
-    | inr c ↦ rw (levels-alone heads t ts o c) (alone-nested heads t (levels_of heads ts) (none-of (opened_by t.kind) o) c (levels-nested heads ts))
+levels-nested heads (t ∷ ts) = elim (cases_Bool (is_some (opened_by t.token_type))) [
+  | inl o ↦ let b = some-of (opened_by t.token_type) o in
+      rw (levels-opening heads t ts o)
+      (enclosed-nested heads t (levels_of (t ∷ heads) ts) b.0 b.1 (levels-nested (t ∷ heads) ts))
+  | inr o ↦ elim (cases_Bool (closes (innermost heads) t.token_type)) [
+    | inl c ↦ rw (levels-closing heads t ts o c)
+        (closed-nested heads t (levels_of (drop 1 heads) ts) c (levels-nested (drop 1 heads) ts))
+    | inr c ↦ rw (levels-alone heads t ts o c)
+        (alone-nested heads t (levels_of heads ts) (none-of (opened_by t.token_type) o) c
+        (levels-nested heads ts))
   ]
 ]
 
-nested-contents : (l : Levels) → LevelsNested [] l → (tokens_in l ≡ all_tokens_of (contents_of l)) × AreNested None (contents_of l) []
+nested-contents : (l : Levels) → LevelsNested [] l
+    → (tokens_in l ≡ all_tokens_of (contents_of l)) × AreNested None (contents_of l) []
 nested-contents (levels contents []) n = (append-nil (all_tokens_of contents), n.0)
 nested-contents (levels contents (level ∷ outside)) n = absurd n.1
 
@@ -175,68 +223,15 @@ followed-nothing (component c cs) = ap (component c) (followed-nothing cs)
 pub onto-nothing : (l : Levels) → onto no_components l ≡ l
 onto-nothing (levels contents outside) = refl
 
-onto-onto : (c : Component) (cs : Components) (l : Levels) → onto (component c no_components) (onto cs l) ≡ onto (component c cs) l
-onto-onto c cs (levels contents outside) = refl
-
-pub alone-onto : (t : Token) (l : Levels) → alone t l ≡ onto (component (one t) no_components) l
+pub alone-onto : (t : Token) (l : Levels) → alone t l ≡ onto (component (preserved t) no_components) l
 alone-onto t (levels contents outside) = refl
 
-pub enclosed-closed : (head t : Token) (contents : Components) (l : Levels) → enclosed head (onto contents (closed t l)) ≡ onto (component (bracketed head contents (Some t)) no_components) l
+pub enclosed-closed : (head t : Token) (contents : Components) (l : Levels)
+    → enclosed head (onto contents (closed t l))
+    ≡ onto (component (bracketed head contents (Some t)) no_components) l
 enclosed-closed head t contents (levels behind outside) = rw (followed-nothing contents) refl
 
-pub enclosed-end : (head : Token) (contents : Components) → enclosed head (onto contents (levels no_components [])) ≡ onto (component (bracketed head contents None) no_components) (levels no_components [])
+pub enclosed-end : (head : Token) (contents : Components)
+    → enclosed head (onto contents (levels no_components []))
+    ≡ onto (component (bracketed head contents None) no_components) (levels no_components [])
 enclosed-end head contents = rw (followed-nothing contents) refl
-
--- the end of a bracket
-enclosed-close : (heads : List Token) (head : Token) (contents : Components) (close : Option Token) (behind : List Token) (b : Bracket) → opened_by head.kind ≡ Some b → IsClosed b close behind
-    → enclosed head (onto contents (levels_of (head ∷ heads) (close_tokens close ++ behind))) ≡ onto (component (bracketed head contents close) no_components) (levels_of heads behind)
-enclosed-close heads head contents None behind b o c =
-    rw (c, levels-end (head ∷ heads), levels-end heads) (enclosed-end head contents)
-enclosed-close heads head contents (Some t) behind b o c =
-    let alone : is_some (opened_by t.kind) ≡ false = rw c refl in
-    let match : closes (innermost (head ∷ heads)) t.kind ≡ true = rw (o, c) (is_same-refl b) in
-    rw (levels-closing (head ∷ heads) t behind alone match) (enclosed-closed head t contents (levels_of heads behind))
-
--- a bracket, with what it holds and its end
-levels-bracket : (heads : List Token) (head : Token) (contents : Components) (close : Option Token) (behind : List Token) (b : Bracket) → opened_by head.kind ≡ Some b → IsClosed b close behind
-    → levels_of (head ∷ heads) (all_tokens_of contents ++ (close_tokens close ++ behind)) ≡ onto contents (levels_of (head ∷ heads) (close_tokens close ++ behind))
-    → levels_of heads (head ∷ ((all_tokens_of contents ++ close_tokens close) ++ behind)) ≡ onto (component (bracketed head contents close) no_components) (levels_of heads behind)
-levels-bracket heads head contents close behind b o c inside =
-    let opening : is_some (opened_by head.kind) ≡ true = rw o refl in
-    rw (append_assoc, levels-opening heads head (all_tokens_of contents ++ (close_tokens close ++ behind)) opening, inside) (enclosed-close heads head contents close behind b o c)
-
-mutual
-  levels-component : (heads : List Token) (c : Component) (behind : List Token) → IsNested (innermost heads) c behind
-      → levels_of heads (tokens_of c ++ behind) ≡ onto (component c no_components) (levels_of heads behind)
-  levels-component heads (one t) behind n =
-      let alone : is_some (opened_by t.kind) ≡ false = rw n.0 refl in
-      levels-alone heads t behind alone n.1 ∙ alone-onto t (levels_of heads behind)
-  levels-component heads (block head contents close) behind n =
-      let opened : opened_by head.kind ≡ Some n.0 = rw n.1 refl in
-      let nested = subst (λ (a : Option Bracket). AreNested a contents (close_tokens close ++ behind)) (sym opened) n.2 in
-      let inside = levels-components (head ∷ heads) contents (close_tokens close ++ behind) nested in
-      levels-bracket heads head contents close behind n.0 opened n.3 inside ∙ ap (λ c. onto (component c no_components) (levels_of heads behind)) (bracketed-block head contents close n.0 n.1)
-  levels-component heads (call head contents close) behind n =
-      let opened : opened_by head.kind ≡ Some round = rw n.1 refl in
-      let nested = subst (λ (a : Option Bracket). AreNested a contents (close_tokens close ++ behind)) (sym opened) n.2 in
-      let inside = levels-components (head ∷ heads) contents (close_tokens close ++ behind) nested in
-      levels-bracket heads head contents close behind round opened n.3 inside ∙ ap (λ c. onto (component c no_components) (levels_of heads behind)) (bracketed-call head contents close n.0 n.1)
-
-  levels-components : (heads : List Token) (cs : Components) (behind : List Token) → AreNested (innermost heads) cs behind
-      → levels_of heads (all_tokens_of cs ++ behind) ≡ onto cs (levels_of heads behind)
-  levels-components heads no_components behind n = sym (onto-nothing (levels_of heads behind))
-  levels-components heads (component c cs) behind n =
-      let first = levels-component heads c (all_tokens_of cs ++ behind) n.0 in
-      let others = levels-components heads cs behind n.1 in
-      rw append_assoc (first ∙ (ap (onto (component c no_components)) others ∙ onto-onto c cs (levels_of heads behind)))
-
--- components of tokens are the computed ones
-pub components-are : (tokens : List Token) (cs : Components) → IsComponents tokens cs → cs ≡ nesting tokens
-components-are tokens cs is =
-    let all : levels_of [] (all_tokens_of cs ++ []) ≡ onto cs (levels_of [] []) = levels-components [] cs [] is.nested in
-    let joined : all_tokens_of cs ++ [] ≡ tokens = append-nil (all_tokens_of cs) ∙ is.joined in
-    let end : onto cs (levels_of [] []) ≡ levels cs [] = rw (levels-end [], followed-nothing cs) refl in
-    sym (ap contents_of (ap (levels_of []) (sym joined) ∙ (all ∙ end)))
-
-pub one-nesting : (tokens : List Token) (cs ds : Components) → IsComponents tokens cs → IsComponents tokens ds → cs ≡ ds
-one-nesting tokens cs ds c d = components-are tokens cs c ∙ sym (components-are tokens ds d)

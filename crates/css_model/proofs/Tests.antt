@@ -23,6 +23,10 @@ pub or-false-right : (a b : Bool) → (a || b) ≡ false → b ≡ false
 or-false-right true b h = absurd (true≢false h)
 or-false-right false b h = h
 
+pub or-none : (a b : Bool) → a ≡ false → b ≡ false → (a || b) ≡ false
+or-none true b h k = h
+or-none false b h k = k
+
 pub not-true : (a : Bool) → not a ≡ true → a ≡ false
 not-true true h = absurd (false≢true h)
 not-true false h = refl

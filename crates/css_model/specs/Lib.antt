@@ -1,11 +1,9 @@
 pub mod Classes
 pub mod Preprocessing
-pub mod Tokens
 pub mod Parts
 pub mod Numerals
 pub mod Spellings
 pub mod TokenList
 pub mod Components
-pub mod Fronts
-pub mod Pieces
-pub mod Nesting
+pub mod TokenValues
+pub mod inner

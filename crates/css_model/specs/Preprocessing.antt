@@ -1,4 +1,4 @@
--- The text before it is cut into tokens (CSS Syntax 3, section 3.3).
+-- Preprocessing the text (CSS Syntax 3, section 3.3).
 use Rattle.std.specs.Prelude.{ℕ, ◌==◌, ◌||◌, ◌&&◌, [], ◌∷◌, if◌then◌else◌}
 use Rattle.css_model.specs.Classes.{Text, newline, replacement, is_newline, begins}
 
@@ -10,9 +10,15 @@ carriage_return = 13
 
 -- a carriage return and a form feed become a newline, and U+0000 becomes U+FFFD
 abbrev pub replaced : ℕ → ℕ
-replaced c = if (c == carriage_return) || (c == form_feed) then newline else (if c == 0 then replacement else c)
+replaced c =
+    if (c == carriage_return) || (c == form_feed)
+    then newline
+    else (if c == 0 then replacement else c)
 
--- each character as it is replaced, but for a carriage return before a newline, which goes
+-- each code point as it is replaced, without the carriage returns that are before a newline
 abbrev pub preprocessed : Text → Text
 preprocessed [] = []
-preprocessed (c ∷ cs) = if (c == carriage_return) && begins is_newline cs then preprocessed cs else replaced c ∷ preprocessed cs
+preprocessed (c ∷ cs) =
+    if (c == carriage_return) && begins is_newline cs
+    then preprocessed cs
+    else replaced c ∷ preprocessed cs

@@ -1,8 +1,8 @@
 -- The inside of a comment, character by character.
 use Rattle.std.proofs.Common.{◌≡◌, ◌∙◌, ap, refl, sym, ℕ, suc, ◌+◌, ◌<◌, length, get_or, drop, drop-cons, add-one, [], ◌∷◌, true, false}
 use Rattle.std.specs.Prelude.{codes}
-use Rattle.css_model.specs.Classes.{Text}
-use Rattle.css_model.specs.Pieces.{has_front, comment_inside}
+use Rattle.css_model.specs.Classes.{Text, has_front}
+use Rattle.css_model.specs.inner.Pieces.{comment_inside}
 
 inside-end : (cs : Text) → has_front (codes "*/") cs ≡ true → length (comment_inside cs) ≡ 0
 inside-end [] t = refl

@@ -4,9 +4,8 @@ pub mod LimitedDecimals
 pub mod Quotients
 pub mod Points
 pub mod OpenBrackets
-pub mod WrittenTexts
 pub mod HexValues
-pub mod KeptParts
+pub mod PartSteps
 pub mod CommentSteps
 pub mod UrlNames
 pub mod CalledNames

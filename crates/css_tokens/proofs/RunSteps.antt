@@ -4,7 +4,7 @@ use Rattle.std.proofs.Common.{◌≡◌, ◌∙◌, sym, ap, ℕ, [], ◌∷◌,
 use Rattle.std.specs.List.{prefix_len}
 use Rattle.std.proofs.lemmas.Bool.{cases_Bool}
 use Rattle.css_model.specs.Classes.{Text}
-use Rattle.css_model.specs.Fronts.{run_in, one_in}
+use Rattle.css_model.specs.inner.Fronts.{run_in, one_in}
 use Rattle.css_model.proofs.Runs.{runs}
 use Rattle.css_model.proofs.PartLemmas.{one_in-joins}
 

@@ -10,7 +10,7 @@ use Rattle.std.proofs.lemmas.Str.{chars-IsAscii, encodes-IsAscii}
 use Rattle.std.proofs.lemmas.Str.Ascii.{IsAscii-cons}
 use Rattle.css_model.specs.Classes.{Text, is_whitespace, is_quote, is_newline, begins}
 use Rattle.css_model.specs.Spellings.{quote_follows, is_url_name}
-use Rattle.css_model.specs.Fronts.{run_in}
+use Rattle.css_model.specs.inner.Fronts.{run_in}
 use Rattle.css_model.proofs.Tests.{or-cases, pick-true, pick-false}
 
 -- ---- ASCII

@@ -1,9 +1,9 @@
-//! Classes of characters (CSS Syntax 3, section 4.2).
+//! Classes of code points (CSS Syntax 3, section 4.2).
 ghost use Rattle.std.specs.Prelude.{◌≡◌};
 ghost use Rattle.css_model.specs.Classes as model;
-ghost use Rattle.css_tokens.specs.Tests.{test_of};
+ghost use Rattle.css_tokens.specs.inner.Classes.{test_of};
 
-/// A class of characters, of which runs are read.
+/// A class of code points.
 #[derive(Clone, Copy, Debug, PartialEq, Eq)]
 pub enum Class {
     /// A digit: 0 to 9.
@@ -25,7 +25,7 @@ pub enum Class {
 }
 
 impl Class {
-    /// Whether the character is of this class.
+    /// Whether `c` is of this class.
     pub fn has(self, c: char) -> bool
         ensures { result ≡ test_of self c }
     {

@@ -1,12 +1,13 @@
 //! Comments (CSS Syntax 3, section 4.3.2).
 ghost use Rattle.std.specs.Prelude.{◌≡◌, ◌≤◌, length, codes};
-ghost use Rattle.css_model.specs.Pieces as model;
-ghost use Rattle.css_tokens.specs.Found.{IsFound};
+ghost use Rattle.css_model.specs.Classes.{has_front};
+ghost use Rattle.css_model.specs.inner.Pieces as model;
+ghost use Rattle.css_tokens.specs.inner.Found.{IsFound};
 
-use super::piece::Piece;
-use super::runs::behind;
+use crate::piece::Piece;
+use crate::runs::after;
 
-/// The comment of which this stands behind `/*`.
+/// Consumes a comment; `cs` starts just after its `/*`.
 pub fn consume_comment(cs: &[char]) -> Piece
     ensures { IsFound result (model.consume_comment cs.now) }
 {
@@ -15,13 +16,13 @@ pub fn consume_comment(cs: &[char]) -> Piece
     Piece::comment(2 + inside + end)
 }
 
-/// How many characters stand before the first `*/`, or are there at all.
+/// How many code points of `cs` are before its first `*/`, or are there at all.
 fn inside_length(cs: &[char]) -> usize
     ensures inside { result ≡ length (model.comment_inside cs.now) }
     ensures within { result ≤ length cs.now }
 {
     for i in 0..cs.len() {
-        if begins_end(behind(cs, i)) {
+        if begins_end(after(cs, i)) {
             return i;
         }
     }
@@ -29,7 +30,7 @@ fn inside_length(cs: &[char]) -> usize
 }
 
 fn begins_end(cs: &[char]) -> bool
-    ensures { result ≡ model.has_front (codes "*/") cs.now }
+    ensures { result ≡ has_front (codes "*/") cs.now }
 {
     matches!(cs, ['*', '/', ..])
 }

@@ -1,16 +1,17 @@
-use super::token::Token;
+//! Component values (CSS Syntax 3, sections 5.4.7 to 5.4.9).
+use css_model::Token;
 use port_core::Seq;
 
-/// A token, or what stands between brackets, with them (CSS Syntax 3, sections 5.4.7 to 5.4.9).
+/// A component value: a preserved token, a simple block or a function.
 #[derive(Debug, Drop)]
 pub enum Component {
-    /// A token that opens nothing.
+    /// A preserved token.
     One(Token),
-    /// An opening bracket, what it holds, and the token that closes it, which is missing where the tokens end before.
+    /// A simple block: the token that opens it, its contents, and the token that closes it, if one does.
     Block(Token, Seq<Component>, Option<Token>),
-    /// A function's name and `(`, what it holds, and the token that closes it, which is missing where the tokens end before.
+    /// A function: its name and `(`, its contents, and the token that closes it, if one does.
     Function(Token, Seq<Component>, Option<Token>),
 }
 
-/// A list of components, in their order.
+/// A list of component values, in their order.
 pub type Components = Seq<Component>;

@@ -2,7 +2,7 @@
 ghost use Rattle.std.specs.Prelude.{◌≡◌, ◌≤◌, ◌<◌, ◌^◌, ◌*◌, ◌-◌, min};
 ghost use Rattle.css_model.specs.Numerals.{decimal_after};
 
-/// The number that these digits write behind others that write `value`, up to a limit.
+/// The number that `digits` write after others that write `value`, at most `limit`.
 pub fn decimal_within(limit: u128, value: u128, digits: &[char]) -> u128
     requires room { limit ≤ 2 ^ 66 }
     requires below { value ≤ limit }
@@ -22,7 +22,7 @@ fn digit_value(c: char) -> u128
     (c as u32).saturating_sub(48) as u128
 }
 
-/// `value` with so many zeros behind it, up to a limit of 16 digits.
+/// `value` followed by this many zeros, at most `limit`, which has up to 16 digits.
 pub fn with_zeros(limit: u128, value: u128, zeros: u128) -> u128
     requires room { limit ≤ 10 ^ 15 }
     requires below { value ≤ limit }

@@ -1,144 +1,136 @@
-//! What names, strings and urls are made of: characters and escapes (CSS Syntax 3, sections 4.3.7 and 4.3.8).
-ghost use Rattle.std.specs.Prelude.{◌≡◌, ◌≤◌, ◌<◌, ◌^◌, length, min, take, option_to_list};
+//! Code points and escapes in names, strings and urls (CSS Syntax 3, sections 4.3.7 and 4.3.8).
+ghost use Rattle.std.specs.Prelude.{◌≡◌, ◌≤◌, ◌<◌, ◌^◌, length, min, option_to_list};
 ghost use Rattle.css_model.specs.Parts as model;
-ghost use Rattle.css_model.specs.Fronts.{hex_digits_in, hex_escape_in, escape_in, part_in};
-ghost use Rattle.css_tokens.specs.declared.escapes.Part.TheVariants as part;
-ghost use Rattle.css_tokens.specs.Kept.{kept, length_of, meaning_of, is_allowed, starts_name, is_hyphen_alone};
+ghost use Rattle.css_model.specs.inner.Fronts.{hex_digits_in, hex_escape_in, escape_in, part_in};
+ghost use Rattle.css_tokens.specs.inner.Parts.{part_view};
 
-use super::classes::{
+use crate::classes::{
     Class, is_ident_char, is_ident_start, is_non_printable, is_quote, is_whitespace,
 };
-use super::runs::{behind, one, run};
+use crate::runs::{after, one, run};
+use css_model::Place;
 
-/// U+FFFD, which stands where a character cannot.
+/// U+FFFD, which replaces what is not a code point.
 const REPLACEMENT: char = '\u{fffd}';
 
-/// The least number that is no character.
+/// The first number past U+10FFFF.
 const TOO_LARGE: u32 = 0x11_0000;
 
-/// Where parts stand.
-#[derive(Clone, Copy, Debug, PartialEq, Eq)]
-pub enum Place {
-    /// In a name.
-    Name,
-    /// In a string that this quote began.
-    Quoted(char),
-    /// In a url without quotes.
-    Url,
-    /// In what is left of a bad url.
-    BadUrl,
-}
-
-/// A character that stands for itself, or an escape.
-#[derive(Clone, Copy, Debug, PartialEq, Eq)]
-pub enum Part {
-    /// A character that is no backslash.
+/// A code point that stands for itself, or an escape.
+#[derive(Clone, Copy, Debug)]
+pub enum Part<'a> {
+    /// A code point that is not a backslash.
     Itself(char),
-    /// A backslash and the character that it stands for.
+    /// A backslash and the code point that it stands for.
     Escaped(char),
-    /// A backslash and the hex digits of a character's number: that character, and how many characters spell it.
-    HexEscape(char, usize),
+    /// A backslash, hex digits that write a code point, and perhaps one whitespace code point.
+    HexEscape {
+        /// The hex digits.
+        digits: &'a [char],
+        /// The whitespace after them.
+        blank: &'a [char],
+    },
     /// A backslash and a newline.
     EscapedNewline,
-    /// A backslash that is the last character of the text.
+    /// A backslash that is the last code point of the text.
     EscapeAtEnd,
 }
 
-impl Part {
-    /// How many characters spell it.
-    pub fn len(self) -> usize
-        ensures { result ≡ length_of self }
+impl<'a> Part<'a> {
+    /// How many code points spell the part.
+    pub fn len(&self) -> usize
+        requires { length (model.part_text (part_view self.now)) < 2 ^ 64 }
+        ensures { result ≡ length (model.part_text (part_view self.now)) }
     {
         match self {
             Part::Itself(_) | Part::EscapeAtEnd => 1,
             Part::Escaped(_) | Part::EscapedNewline => 2,
-            Part::HexEscape(_, count) => count,
+            Part::HexEscape { digits, blank } => 1 + digits.len() + blank.len(),
         }
     }
 
-    /// Whether it may stand at this place.
-    pub fn is_allowed(self, place: Place) -> bool
-        ensures { result ≡ is_allowed place self }
+    /// Whether the part may stand at `place`.
+    pub fn may_stand(&self, place: Place) -> bool
+        ensures { result ≡ model.may_stand place (part_view self.now) }
     {
         match self {
-            Part::Itself(c) => place.allows(c),
-            Part::EscapedNewline => place.allows_escaped_newline(),
-            Part::Escaped(_) | Part::HexEscape(_, _) | Part::EscapeAtEnd => true,
+            Part::Itself(c) => is_allowed(place, *c),
+            Part::EscapedNewline => allows_escaped_newline(place),
+            Part::Escaped(_) | Part::HexEscape { .. } | Part::EscapeAtEnd => true,
         }
     }
 
-    /// The character that it stands for at this place, if it stands for one.
-    pub fn meaning(self, place: Place) -> Option<char>
-        ensures { option_to_list result ≡ meaning_of place self }
+    /// The code point that the part stands for at `place`, if it stands for one.
+    pub fn meaning(&self, place: Place) -> Option<char>
+        ensures { option_to_list result ≡ model.meaning place (part_view self.now) }
     {
         match self {
-            Part::Itself(c) | Part::Escaped(c) | Part::HexEscape(c, _) => Some(c),
+            Part::Itself(c) | Part::Escaped(c) => Some(*c),
+            Part::HexEscape { digits, .. } => Some(code_point_of(hex_value(*digits))),
             Part::EscapedNewline => None,
-            Part::EscapeAtEnd => place.escape_at_end(),
+            Part::EscapeAtEnd => meaning_at_end(place),
         }
     }
 
-    /// Whether a name may start with it.
-    pub fn starts_name(self) -> bool
-        ensures { result ≡ starts_name self }
+    /// Whether a name may start with the part.
+    pub fn starts_name(&self) -> bool
+        ensures { result ≡ model.starts_name (part_view self.now) }
     {
         match self {
-            Part::Itself(c) => is_ident_start(c),
+            Part::Itself(c) => is_ident_start(*c),
             Part::EscapedNewline => false,
-            Part::Escaped(_) | Part::HexEscape(_, _) | Part::EscapeAtEnd => true,
+            Part::Escaped(_) | Part::HexEscape { .. } | Part::EscapeAtEnd => true,
         }
     }
 
-    /// Whether it is a `-` that is not escaped.
-    pub fn is_hyphen(self) -> bool
-        ensures { result ≡ is_hyphen_alone self }
+    /// Whether the part is a `-` that is not escaped.
+    pub fn is_hyphen(&self) -> bool
+        ensures { result ≡ model.is_hyphen (part_view self.now) }
     {
         match self {
-            Part::Itself(c) => c == '-',
+            Part::Itself(c) => *c == '-',
             _ => false,
         }
     }
 }
 
-impl Place {
-    /// Whether this character may stand for itself here.
-    fn allows(self, c: char) -> bool
-        ensures { result ≡ is_allowed self (part.Itself c) }
-    {
-        match self {
-            Place::Name => is_ident_char(c),
-            Place::Quoted(quote) => c != quote && c != '\n',
-            Place::Url => {
-                !is_quote(c) && c != '(' && c != ')' && !is_whitespace(c) && !is_non_printable(c)
-            }
-            Place::BadUrl => c != ')',
+/// Whether `c` stands for itself at `place`, unless it is a backslash.
+pub fn is_allowed(place: Place, c: char) -> bool
+    ensures { result ≡ model.is_allowed place c }
+{
+    match place {
+        Place::InName => is_ident_char(c),
+        Place::InString(quote) => c != quote && c != '\n',
+        Place::InUrl => {
+            !is_quote(c) && c != '(' && c != ')' && !is_whitespace(c) && !is_non_printable(c)
         }
-    }
-
-    /// Whether an escaped newline may stand here.
-    fn allows_escaped_newline(self) -> bool
-        ensures { result ≡ is_allowed self part.EscapedNewline }
-    {
-        match self {
-            Place::Name | Place::Url => false,
-            Place::Quoted(_) | Place::BadUrl => true,
-        }
-    }
-
-    /// What a backslash at the end of the text stands for here.
-    fn escape_at_end(self) -> Option<char>
-        ensures { option_to_list result ≡ meaning_of self part.EscapeAtEnd }
-    {
-        match self {
-            Place::Quoted(_) => None,
-            Place::Name | Place::Url | Place::BadUrl => Some(REPLACEMENT),
-        }
+        Place::InBadUrl => c != ')',
     }
 }
 
-/// The part that a text begins with.
-pub fn part_at(c: char, rest: &[char]) -> Part
-    ensures { result ≡ kept (part_in c rest.now) }
+/// Whether an escaped newline may stand at `place`.
+fn allows_escaped_newline(place: Place) -> bool
+    ensures { result ≡ model.allows_escaped_newline place }
+{
+    match place {
+        Place::InName | Place::InUrl => false,
+        Place::InString(_) | Place::InBadUrl => true,
+    }
+}
+
+/// What a backslash at the end of the text stands for at `place`.
+fn meaning_at_end(place: Place) -> Option<char>
+    ensures { option_to_list result ≡ model.meaning_at_end place }
+{
+    match place {
+        Place::InString(_) => None,
+        Place::InName | Place::InUrl | Place::InBadUrl => Some(REPLACEMENT),
+    }
+}
+
+/// The part that `c` and then `rest` begin with.
+pub fn part_at<'a>(c: char, rest: &'a [char]) -> Part<'a>
+    ensures { part_view result ≡ part_in c rest.now }
 {
     if c == '\\' {
         escape_at(rest)
@@ -147,9 +139,9 @@ pub fn part_at(c: char, rest: &[char]) -> Part
     }
 }
 
-/// The part of which this stands behind the backslash.
-fn escape_at(rest: &[char]) -> Part
-    ensures { result ≡ kept (escape_in rest.now) }
+/// The escape after whose backslash `rest` begins.
+fn escape_at<'a>(rest: &'a [char]) -> Part<'a>
+    ensures { part_view result ≡ escape_in rest.now }
 {
     match rest {
         [] => Part::EscapeAtEnd,
@@ -165,14 +157,13 @@ fn escape_at(rest: &[char]) -> Part
     }
 }
 
-/// The hex escape of which this stands behind the backslash: up to six hex digits, and one whitespace character.
-fn hex_escape_at(rest: &[char]) -> Part
-    ensures { result ≡ kept (hex_escape_in rest.now) }
+/// The hex escape after whose backslash `rest` begins.
+fn hex_escape_at<'a>(rest: &'a [char]) -> Part<'a>
+    ensures { part_view result ≡ hex_escape_in rest.now }
 {
     let digits = hex_digits(rest);
-    let (blank, _) = one(Class::Whitespace, behind(rest, digits.len()));
-    let c = character_of(hex_value(digits));
-    Part::HexEscape(c, 1 + digits.len() + blank.len())
+    let (blank, _) = one(Class::Whitespace, after(rest, digits.len()));
+    Part::HexEscape { digits, blank }
 }
 
 /// The hex digits in front, but no more than six.
@@ -186,7 +177,7 @@ fn hex_digits<'a>(cs: &'a [char]) -> &'a [char]
     digits
 }
 
-/// The number that hex digits write, up to the first that is no character.
+/// The number that hex digits write, clamped to the first number past U+10FFFF.
 fn hex_value(digits: &[char]) -> u32
     ensures { result ≡ min 0x110000 (model.hex_value_after 0 digits.now) }
 {
@@ -211,9 +202,9 @@ fn hex_digit_value(c: char) -> u32
     }
 }
 
-/// The character of this number; U+FFFD for zero, a surrogate and what is too large.
-fn character_of(n: u32) -> char
-    ensures { result ≡ model.character_of n }
+/// The code point of this number: U+FFFD for zero, a surrogate and a number past U+10FFFF.
+fn code_point_of(n: u32) -> char
+    ensures { result ≡ model.code_point_of n }
 {
     match char::from_u32(n) {
         Some(c) => { if c == '\0' { REPLACEMENT } else { c } }

@@ -1,16 +1,17 @@
+//! Why component values could not be made.
 ghost use Rattle.css_tokens.specs.declared.fault.TokenFault.TheVariants.{NoMemory as no_memory};
 ghost use Rattle.std.specs.Prelude.{◌≡◌};
 
 use port_core::NoMemory;
 use thiserror::Error;
 
-/// Why the components of a text could not be made.
+/// Why the component values of tokens could not be made.
 #[derive(Debug, Drop, PartialEq, Eq, Error)]
 pub enum TokenFault {
     /// There is not enough memory.
     #[error("not enough memory")]
     NoMemory,
-    /// Brackets nest too deep.
+    /// Simple blocks and functions nest deeper than `MAX_NESTING`.
     #[error("brackets nest too deep")]
     TooDeep,
 }

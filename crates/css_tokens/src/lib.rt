@@ -1,12 +1,10 @@
-//! What is read of a text of CSS: its tokens, and their components.
+//! What is read of a text of CSS: its tokens, and their component values.
 #![tactic(auto)]
 
 mod classes;
 mod comments;
 mod component;
-mod copies;
 mod decimals;
-mod decoding;
 mod escapes;
 mod fault;
 mod first_piece;
@@ -17,20 +15,18 @@ mod nesting;
 mod nesting_tests;
 mod numbers;
 mod numerals;
+mod parts;
 mod piece;
 mod preprocessing;
 mod runs;
 mod strings;
 #[cfg(test)]
 mod tests;
-mod token;
 mod tokenizer;
 mod urls;
-mod values;
-mod written;
 
 pub use component::{Component, Components};
+pub use css_model::{Bracket, Number, Token, TokenType, Tokens};
 pub use fault::TokenFault;
 pub use nesting::components;
-pub use token::{Bracket, Number, Token, TokenKind, Tokens};
 pub use tokenizer::tokenize;

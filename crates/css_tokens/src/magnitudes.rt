@@ -1,12 +1,14 @@
-//! The size of a number: its exact decimal value without a sign, cut to millionths and limited (CSS Syntax 3, section 4.3.13).
+//! The size of a number: its decimal value without a sign, truncated to millionths and clamped
+//! (CSS Syntax 3, section 4.3.13).
 //!
-//! A number may have any count of digits and any exponent. Its point moves by so many places, six of them for millionths, and what then stands before the point is read.
+//! A number may have any count of digits and any exponent. Its point moves by the exponent's places,
+//! and six more for millionths, and what is then before the point is read.
 ghost use Rattle.std.specs.Prelude.{◌≡◌, ◌+◌, ◌-◌, ◌*◌, ◌/◌, ◌^◌, ◌++◌, length, take, min, true};
 ghost use Rattle.std.specs.List.{list_all};
 ghost use Rattle.css_model.specs.Classes.{is_digit};
 ghost use Rattle.css_model.specs.Numerals.{decimal_after};
 
-use super::decimals::{decimal_within, with_zeros};
+use crate::decimals::{decimal_within, with_zeros};
 
 /// The greatest size, in millionths.
 const MAX_SIZE: u128 = 1_000_000_000_000_000;
@@ -17,25 +19,26 @@ const MAX_PLACES: u128 = 1 << 65;
 /// How many places millionths have.
 const MILLIONTHS: u128 = 6;
 
-/// What stands before the point, when it has moved to the right by so many places.
-fn moved_right(whole: &[char], fraction: &[char], places: u128) -> u128
-    ensures { result ≡ min (10 ^ 15) (decimal_after 0 (whole.now ++ take places fraction.now) * 10 ^ (places - length fraction.now)) }
+/// The number before the point after it has moved to the right by `places`, clamped.
+fn moved_right(integer: &[char], fraction: &[char], places: u128) -> u128
+    ensures { result ≡ min (10 ^ 15)
+        (decimal_after 0 (integer.now ++ take places fraction.now) * 10 ^ (places - length fraction.now)) }
 {
     let kept = places.min(fraction.len() as u128);
-    let value = decimal_within(MAX_SIZE, 0, whole);
+    let value = decimal_within(MAX_SIZE, 0, integer);
     let value = decimal_within(MAX_SIZE, value, &fraction[..kept as usize]);
     with_zeros(MAX_SIZE, value, places - kept)
 }
 
-/// What stands before the point, when it has moved to the left by so many places.
-fn moved_left(whole: &[char], places: u128) -> u128
-    ensures { result ≡ min (10 ^ 15) (decimal_after 0 (take (length whole.now - places) whole.now)) }
+/// The number before the point after it has moved to the left by `places`, clamped.
+fn moved_left(integer: &[char], places: u128) -> u128
+    ensures { result ≡ min (10 ^ 15) (decimal_after 0 (take (length integer.now - places) integer.now)) }
 {
-    let cut = places.min(whole.len() as u128) as usize;
-    decimal_within(MAX_SIZE, 0, &whole[..whole.len() - cut])
+    let cut = places.min(integer.len() as u128) as usize;
+    decimal_within(MAX_SIZE, 0, &integer[..integer.len() - cut])
 }
 
-/// How many places an exponent means, up to more than any number has.
+/// The places of an exponent, at most `MAX_PLACES`.
 fn places_of(exponent: &[char]) -> u128
     ensures { result ≡ min (2 ^ 65) (decimal_after 0 exponent.now) }
 {
@@ -43,22 +46,26 @@ fn places_of(exponent: &[char]) -> u128
 }
 
 /// The size of a number whose exponent is not negative.
-pub fn enlarged(whole: &[char], fraction: &[char], exponent: &[char]) -> u128
+pub fn enlarged(integer: &[char], fraction: &[char], exponent: &[char]) -> u128
     requires fraction { list_all is_digit fraction.now ≡ true }
-    ensures { result ≡ min (10 ^ 15) ((decimal_after 0 (whole.now ++ fraction.now) * 10 ^ (6 + decimal_after 0 exponent.now)) / 10 ^ (length fraction.now + 0)) }
+    ensures { result ≡ min (10 ^ 15)
+        ((decimal_after 0 (integer.now ++ fraction.now) * 10 ^ (6 + decimal_after 0 exponent.now))
+        / 10 ^ (length fraction.now + 0)) }
 {
-    moved_right(whole, fraction, MILLIONTHS + places_of(exponent))
+    moved_right(integer, fraction, MILLIONTHS + places_of(exponent))
 }
 
 /// The size of a number whose exponent is negative.
-pub fn reduced(whole: &[char], fraction: &[char], exponent: &[char]) -> u128
-    requires whole { list_all is_digit whole.now ≡ true }
+pub fn reduced(integer: &[char], fraction: &[char], exponent: &[char]) -> u128
+    requires integer { list_all is_digit integer.now ≡ true }
     requires fraction { list_all is_digit fraction.now ≡ true }
-    ensures { result ≡ min (10 ^ 15) ((decimal_after 0 (whole.now ++ fraction.now) * 10 ^ (6 + 0)) / 10 ^ (length fraction.now + decimal_after 0 exponent.now)) }
+    ensures { result ≡ min (10 ^ 15)
+        ((decimal_after 0 (integer.now ++ fraction.now) * 10 ^ (6 + 0))
+        / 10 ^ (length fraction.now + decimal_after 0 exponent.now)) }
 {
     let places = places_of(exponent);
     if places < MILLIONTHS {
-        return moved_right(whole, fraction, MILLIONTHS - places);
+        return moved_right(integer, fraction, MILLIONTHS - places);
     }
-    moved_left(whole, places - MILLIONTHS)
+    moved_left(integer, places - MILLIONTHS)
 }

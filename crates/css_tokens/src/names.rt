@@ -1,52 +1,52 @@
 //! Identifiers and functions (CSS Syntax 3, section 4.3.4).
 ghost use Rattle.std.specs.Prelude.{◌≡◌, ◌&&◌, not, IfOk};
-ghost use Rattle.css_model.specs.Parts.{in_name};
-ghost use Rattle.css_model.specs.Fronts.{parts_in, behind_parts};
+ghost use Rattle.css_model.specs.declared.place.Place.TheVariants.{InName};
+ghost use Rattle.css_model.specs.inner.Fronts.{parts_in, after_parts};
 ghost use Rattle.css_model.specs.Spellings as spelling;
-ghost use Rattle.css_model.specs.Pieces as model;
-ghost use Rattle.css_tokens.specs.Found.{IsFound};
+ghost use Rattle.css_model.specs.inner.Pieces as model;
+ghost use Rattle.css_tokens.specs.inner.Found.{IsFound};
 
-use super::classes::Class;
-use super::decoding::decode;
-use super::escapes::Place;
-use super::piece::Piece;
-use super::runs::{begins, behind, run};
-use super::token::TokenKind;
-use super::urls::consume_url;
+use crate::classes::Class;
+use crate::parts::consume_parts;
+use crate::piece::Piece;
+use crate::runs::{after, begins, run};
+use crate::urls::consume_url;
+use css_model::{Place, TokenType};
 use port_core::{NoMemory, Text};
 use std::alloc::Global;
 
-/// The identifier, function or url whose name stands in front.
+/// Consumes the identifier, function or url whose name is in front of `cs`.
 pub fn consume_ident_like(alloc: Global, cs: &[char]) -> Result<Piece, NoMemory>
-    ensures { IfOk result (λ p. IsFound p (model.consume_ident_like (parts_in in_name cs.now) (behind_parts (parts_in in_name cs.now) cs.now))) }
+    ensures { IfOk result (λ p. IsFound p
+        (model.consume_ident_like (parts_in InName cs.now) (after_parts (parts_in InName cs.now) cs.now))) }
 {
-    let decoded = decode(alloc, Place::Name, cs)?;
-    if !begins(Class::OpenRound, behind(cs, decoded.count)) {
-        return Ok(Piece::token(TokenKind::Ident(decoded.meaning), decoded.count));
+    let name = consume_parts(alloc, Place::InName, cs)?;
+    if !begins(Class::OpenRound, after(cs, name.count)) {
+        return Ok(Piece::token(TokenType::Ident(name.meaning), name.count));
     }
-    let head = decoded.count + 1;
-    if begins_url(&decoded.meaning, behind(cs, head)) {
+    let head = name.count + 1;
+    if begins_url(&name.meaning, after(cs, head)) {
         consume_url(alloc, head, cs)
     } else {
-        Ok(Piece::token(TokenKind::Function(decoded.meaning), head))
+        Ok(Piece::token(TokenType::Function(name.meaning), head))
     }
 }
 
-/// Whether a url without quotes follows behind this name and `(`.
+/// Whether `name`, `(` and then `rest` begin a url without quotes.
 fn begins_url(name: &Text, rest: &[char]) -> bool
     ensures { result ≡ (spelling.is_url_name name.now && not (spelling.quote_follows rest.now)) }
 {
     is_url_name(name) && !quote_follows(rest)
 }
 
-/// Whether this is the name of urls, in any case.
+/// Whether `name` is the name of urls, in any case.
 fn is_url_name(name: &Text) -> bool
     ensures { result ≡ spelling.is_url_name name.now }
 {
     name.as_str().eq_ignore_ascii_case("url")
 }
 
-/// Whether a quote follows, with or without whitespace between.
+/// Whether `cs` begins with a quote, with or without whitespace before it.
 fn quote_follows(cs: &[char]) -> bool
     ensures { result ≡ spelling.quote_follows cs.now }
 {

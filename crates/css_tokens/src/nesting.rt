@@ -1,67 +1,63 @@
-//! Components: tokens, nested by their brackets (CSS Syntax 3, sections 5.4.7 to 5.4.9).
+//! Component values: tokens, nested by their brackets (CSS Syntax 3, sections 5.4.7 to 5.4.9).
 ghost use Rattle.std.specs.Prelude.{◌≡◌, ◌<◌, ◌≤◌, List, [], ◌∷◌, ◌++◌, Some, true, false, option_map, length, IfOk, Err};
 ghost use Rattle.std.specs.Option.{is_some};
-ghost use Rattle.css_model.specs.Tokens as model;
 ghost use Rattle.css_model.specs.Components as defined;
-ghost use Rattle.css_model.specs.Components.{IsComponents, depths, max_nesting};
-ghost use Rattle.css_model.specs.Nesting as computed;
-ghost use Rattle.css_model.specs.Nesting.{innermost, nesting, followed};
-ghost use Rattle.css_tokens.specs.Views.{bracket_view, kind_view, token_view, tokens_view};
-ghost use Rattle.css_tokens.specs.Nesting.{component_view, components_view};
-ghost use Rattle.css_tokens.specs.OpenBrackets.{heads_of, with_rest, IsWithin, Ends, Taken, Nests};
+ghost use Rattle.css_model.specs.Components.{IsComponents, depths};
+ghost use Rattle.css_model.specs.inner.Nesting as computed;
+ghost use Rattle.css_model.specs.inner.Nesting.{innermost, nesting, followed};
+ghost use Rattle.css_model.specs.declared.token.TheConstants.{MAX_NESTING};
+ghost use Rattle.css_tokens.specs.Nested.{component_view, components_view};
+ghost use Rattle.css_tokens.specs.inner.OpenBrackets.{heads_of, with_rest, IsWithin, Ends, Taken, Nests};
 
-use super::component::{Component, Components};
-use super::fault::TokenFault;
-use super::token::{Bracket, Token, TokenKind, Tokens};
+use crate::component::{Component, Components};
+use crate::fault::TokenFault;
+use css_model::{Bracket, MAX_NESTING, Token, TokenType, Tokens};
 use port_core::{NoMemory, Seq};
 use std::alloc::Global;
 use std::mem;
 
-/// How deep brackets may nest.
-const MAX_NESTING: usize = 64;
-
-/// A bracket that is open: what stands before it in the bracket around it, and the token that opened it.
+/// A bracket that is open: what is before it in the bracket around it, and the token that opened it.
 #[derive(Drop)]
 struct OpenBracket {
     before: Components,
     head: Token,
 }
 
-/// Components that are being made.
+/// Component values that are being made.
 #[derive(Drop)]
 struct Nesting {
-    /// The brackets that are open, the innermost last.
+    /// The open brackets, the innermost last.
     open_brackets: Seq<OpenBracket>,
-    /// What the innermost one holds so far.
+    /// The contents of the innermost one so far.
     contents: Components,
 }
 
-/// The bracket that a token of this class opens.
-fn opened_by(kind: &TokenKind) -> Option<Bracket>
-    ensures { option_map bracket_view result ≡ defined.opened_by (kind_view kind.now) }
+/// The bracket that a token of this type opens, if it opens one.
+fn opened_by(token_type: &TokenType) -> Option<Bracket>
+    ensures { result ≡ defined.opened_by token_type.now }
 {
-    match kind {
-        TokenKind::Function(_) => Some(Bracket::Round),
-        TokenKind::Opening(bracket) => Some(*bracket),
+    match token_type {
+        TokenType::Function(_) => Some(Bracket::Round),
+        TokenType::Opening(bracket) => Some(*bracket),
         _ => None,
     }
 }
 
-/// A token of this class closes the innermost bracket around it.
-fn closes(around: Option<Bracket>, kind: &TokenKind) -> bool
-    ensures { result ≡ defined.closes (option_map bracket_view around) (kind_view kind.now) }
+/// Whether a token of this type closes the bracket `around` it.
+fn closes(around: Option<Bracket>, token_type: &TokenType) -> bool
+    ensures { result ≡ defined.closes around token_type.now }
 {
-    match (around, kind) {
-        (Some(opened), TokenKind::Closing(bracket)) => opened == *bracket,
+    match (around, token_type) {
+        (Some(opened), TokenType::Closing(bracket)) => opened == *bracket,
         _ => false,
     }
 }
 
-/// A bracket or function, with what it holds.
+/// The simple block or function of `head`, with its `contents` and the token that closes it.
 fn bracketed(head: Token, contents: Components, close: Option<Token>) -> Component
-    ensures { component_view result ≡ computed.bracketed (token_view head) (components_view contents) (option_map token_view close) }
+    ensures { component_view result ≡ computed.bracketed head (components_view contents) close }
 {
-    if matches!(&head.kind, TokenKind::Function(_)) {
+    if matches!(&head.token_type, TokenType::Function(_)) {
         Component::Function(head, contents, close)
     } else {
         Component::Block(head, contents, close)
@@ -69,26 +65,27 @@ fn bracketed(head: Token, contents: Components, close: Option<Token>) -> Compone
 }
 
 impl Nesting {
-    /// The innermost bracket that is open.
+    /// The innermost open bracket, if one is open.
     fn innermost(&self) -> Option<Bracket>
-        ensures { option_map bracket_view result ≡ innermost (heads_of self.now.open_brackets) }
+        ensures { result ≡ innermost (heads_of self.now.open_brackets) }
     {
         match self.open_brackets.as_slice() {
-            [.., open_bracket] => opened_by(&open_bracket.head.kind),
+            [.., open_bracket] => opened_by(&open_bracket.head.token_type),
             [] => None,
         }
     }
 
-    /// A component follows.
+    /// Appends a component value to the innermost open bracket.
     fn add(&mut self, component: Component) -> Result<(), NoMemory>
         ensures open_brackets { self.new.open_brackets ≡ self.old.open_brackets }
-        ensures contents { IfOk result (λ _. components_view self.new.contents ≡ followed (components_view self.old.contents) (defined.component (component_view component) defined.no_components)) }
+        ensures contents { IfOk result (λ _. components_view self.new.contents
+            ≡ followed (components_view self.old.contents) (defined.component (component_view component) defined.no_components)) }
     {
         self.contents.push(component)?;
         Ok(())
     }
 
-    /// The innermost bracket ends.
+    /// Ends the innermost open bracket, which `close` closes.
     fn end(&mut self, close: Option<Token>) -> Result<(), NoMemory>
         requires open { 0 < length self.old.open_brackets }
         ensures { IfOk result (λ _. Ends self.old close self.new) }
@@ -103,10 +100,10 @@ impl Nesting {
         }
     }
 
-    /// A token follows that opens a bracket.
+    /// Takes a token that opens a bracket.
     fn take_opening(&mut self, alloc: Global, head: Token) -> Result<(), TokenFault>
-        requires opens { is_some (defined.opened_by (token_view head).kind) ≡ true }
-        ensures { Taken result self.old (token_view head) self.new }
+        requires opens { is_some (defined.opened_by head.token_type) ≡ true }
+        ensures { Taken result self.old head self.new }
     {
         if self.open_brackets.len() >= MAX_NESTING {
             return Err(TokenFault::TooDeep);
@@ -116,44 +113,45 @@ impl Nesting {
         Ok(())
     }
 
-    /// A token follows that closes the innermost bracket.
+    /// Takes a token that closes the innermost open bracket.
     fn take_closing(&mut self, close: Token) -> Result<(), TokenFault>
-        requires opens { is_some (defined.opened_by (token_view close).kind) ≡ false }
-        requires closes { defined.closes (innermost (heads_of self.old.open_brackets)) (token_view close).kind ≡ true }
-        ensures { Taken result self.old (token_view close) self.new }
+        requires opens { is_some (defined.opened_by close.token_type) ≡ false }
+        requires closes { defined.closes (innermost (heads_of self.old.open_brackets)) close.token_type ≡ true }
+        ensures { Taken result self.old close self.new }
     {
         self.end(Some(close))?;
         Ok(())
     }
 
-    /// A token follows that is a component.
+    /// Takes a token that is preserved.
     fn take_alone(&mut self, token: Token) -> Result<(), TokenFault>
-        requires opens { is_some (defined.opened_by (token_view token).kind) ≡ false }
-        requires closes { defined.closes (innermost (heads_of self.old.open_brackets)) (token_view token).kind ≡ false }
-        ensures { Taken result self.old (token_view token) self.new }
+        requires opens { is_some (defined.opened_by token.token_type) ≡ false }
+        requires closes { defined.closes (innermost (heads_of self.old.open_brackets)) token.token_type ≡ false }
+        ensures { Taken result self.old token self.new }
     {
         self.add(Component::One(token))?;
         Ok(())
     }
 
-    /// A token follows.
+    /// Takes a token.
     fn take(&mut self, alloc: Global, token: &Token) -> Result<(), TokenFault>
-        ensures { Taken result self.old (token_view token.now) self.new }
+        ensures { Taken result self.old token.now self.new }
     {
         let copy = token.copy(alloc)?;
-        if opened_by(&copy.kind).is_some() {
+        if opened_by(&copy.token_type).is_some() {
             self.take_opening(alloc, copy)
-        } else if closes(self.innermost(), &copy.kind) {
+        } else if closes(self.innermost(), &copy.token_type) {
             self.take_closing(copy)
         } else {
             self.take_alone(copy)
         }
     }
 
-    /// The tokens end.
+    /// Ends all open brackets, and returns the component values.
     fn finish(mut self) -> Result<Components, NoMemory>
         requires within { IsWithin self }
-        ensures { IfOk result (λ cs. (components_view cs ≡ with_rest self []) × (depths (components_view cs) ≤ max_nesting)) }
+        ensures { IfOk result (λ cs. (components_view cs ≡ with_rest self [])
+            × (depths (components_view cs) ≤ MAX_NESTING)) }
     {
         while !self.open_brackets.is_empty() {
             self.end(None)?;
@@ -163,7 +161,7 @@ impl Nesting {
 }
 
 fn nested(alloc: Global, tokens: &[Token]) -> Result<Components, TokenFault>
-    ensures { Nests result (tokens_view tokens.now) }
+    ensures { Nests result tokens.now }
 {
     let mut nesting = Nesting {
         open_brackets: Seq::new(alloc),
@@ -175,14 +173,18 @@ fn nested(alloc: Global, tokens: &[Token]) -> Result<Components, TokenFault>
     Ok(nesting.finish()?)
 }
 
-/// The components of tokens (CSS Syntax 3, sections 5.4.7 to 5.4.9).
+/// The component values of `tokens` (CSS Syntax 3, sections 5.4.7 to 5.4.9).
 ///
-/// A bracket is closed by its match, or ends with the tokens; a closing bracket that is no match of the innermost open one is a component.
-/// `TooDeep` is answered just where brackets and functions nest deeper than 64, unless memory runs out before.
-/// Time grows with the number and the length of the tokens, and each is copied once.
+/// A bracket is closed by its match, or ends with the tokens; a closing bracket that is not the
+/// match of the innermost open one is preserved.
+/// Returns `TooDeep` if simple blocks and functions nest deeper than `MAX_NESTING`, unless memory
+/// runs out before.
+/// Time grows with the number and the length of the tokens; each is copied once.
 pub fn components(alloc: Global, tokens: &Tokens) -> Result<Components, TokenFault>
-    ensures nested { IfOk result (λ cs. IsComponents (tokens_view tokens.now) (components_view cs) × (depths (components_view cs) ≤ max_nesting)) }
-    ensures deep { result ≡ Err TokenFault.TooDeep → (cs : defined.Components) × IsComponents (tokens_view tokens.now) cs × (max_nesting < depths cs) }
+    ensures nested { IfOk result (λ cs. IsComponents tokens.now (components_view cs)
+        × (depths (components_view cs) ≤ MAX_NESTING)) }
+    ensures deep { result ≡ Err TokenFault.TooDeep →
+        (cs : defined.Components) × IsComponents tokens.now cs × (MAX_NESTING < depths cs) }
 {
     nested(alloc, tokens.as_slice())
 }

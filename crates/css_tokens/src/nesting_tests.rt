@@ -1,9 +1,11 @@
+//! Rows of texts with their component values (CSS Syntax 3, sections 5.4.7 to 5.4.9).
 use crate::{Component, Token, TokenFault, components, tokenize};
 use port_core::NoMemory;
 use std::alloc::Global;
 use std::test::Fail;
 
-/// Spells components: a block between `<` and `>`, a function between `/` and `/`, and `_` where a closing token is missing.
+/// Spells components: a block between `<` and `>`, a function between `/` and `/`, and `_` for a
+/// closing token that is missing.
 fn spell(components: &[Component], spelled: &mut String) -> Result<(), NoMemory> {
     for component in components {
         match component {

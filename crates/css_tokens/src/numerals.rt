@@ -3,13 +3,13 @@ ghost use Rattle.std.specs.Prelude.{◌≡◌, ◌<◌, ◌^◌, length, drop, m
 ghost use Rattle.std.specs.List.{list_all};
 ghost use Rattle.css_model.specs.Classes.{is_digit};
 ghost use Rattle.css_model.specs.Numerals as written;
-ghost use Rattle.css_model.specs.Fronts as model;
-ghost use Rattle.css_tokens.specs.Views.{number_view, numeral_view};
+ghost use Rattle.css_model.specs.inner.Fronts as model;
+ghost use Rattle.css_tokens.specs.inner.Numerals.{numeral_view};
 
-use super::classes::{Class, is_e, is_sign};
-use super::magnitudes::{enlarged, reduced};
-use super::runs::{begins, one, run};
-use super::token::Number;
+use crate::classes::{Class, is_e, is_sign};
+use crate::magnitudes::{enlarged, reduced};
+use crate::runs::{begins, one, run};
+use css_model::Number;
 use units64::Fixed6;
 
 /// What is written of a number; each part may be empty.
@@ -18,8 +18,8 @@ pub struct Numeral<'a> {
     /// `+` or `-`.
     pub sign: &'a [char],
     /// The digits before the point.
-    pub whole: &'a [char],
-    /// The digits behind the point, without it.
+    pub integer: &'a [char],
+    /// The digits after the point, without it.
     pub fraction: &'a [char],
     /// The `e` or `E` before an exponent.
     pub mark: &'a [char],
@@ -75,48 +75,48 @@ fn begins_exponent(cs: &[char]) -> bool
     }
 }
 
-/// The digits behind a point, and what stands behind them; a point that no digit follows stays there.
+/// The digits after a point in front of `cs`, and the rest; a point that no digit follows stays there.
 fn read_fraction<'a>(cs: &'a [char]) -> (&'a [char], &'a [char])
     ensures front { result.0.now ≡ model.fraction_in cs.now }
-    ensures behind { result.1.now ≡ drop (length (written.fraction_text (model.fraction_in cs.now))) cs.now }
+    ensures rest { result.1.now ≡ drop (length (written.fraction_text (model.fraction_in cs.now))) cs.now }
 {
     match cs {
         ['.', rest @ ..] => {
-            let (digits, behind) = run(Class::Digit, rest);
+            let (digits, rest) = run(Class::Digit, rest);
             if digits.is_empty() {
                 return (digits, cs);
             }
-            (digits, behind)
+            (digits, rest)
         }
         _ => (&[], cs),
     }
 }
 
-/// The number of these parts, and of the exponent that the text behind them begins with.
+/// The number of these parts, and of the exponent in front of `cs`.
 fn with_exponent<'a>(
     sign: &'a [char],
-    whole: &'a [char],
+    integer: &'a [char],
     fraction: &'a [char],
     cs: &'a [char],
 ) -> Numeral<'a>
-    ensures { numeral_view result ≡ model.with_exponent sign.now whole.now fraction.now cs.now }
+    ensures { numeral_view result ≡ model.with_exponent sign.now integer.now fraction.now cs.now }
 {
     if !begins_exponent(cs) {
         return Numeral {
             sign,
-            whole,
+            integer,
             fraction,
             mark: &[],
             exponent_sign: &[],
             exponent: &[],
         };
     }
-    let (mark, behind) = cs.split_at(1);
-    let (exponent_sign, behind) = one(Class::Sign, behind);
-    let (exponent, _) = run(Class::Digit, behind);
+    let (mark, rest) = cs.split_at(1);
+    let (exponent_sign, rest) = one(Class::Sign, rest);
+    let (exponent, _) = run(Class::Digit, rest);
     Numeral {
         sign,
-        whole,
+        integer,
         fraction,
         mark,
         exponent_sign,
@@ -128,10 +128,10 @@ fn with_exponent<'a>(
 pub fn read_numeral<'a>(cs: &'a [char]) -> Numeral<'a>
     ensures { numeral_view result ≡ model.numeral_in cs.now }
 {
-    let (sign, behind) = one(Class::Sign, cs);
-    let (whole, behind) = run(Class::Digit, behind);
-    let (fraction, behind) = read_fraction(behind);
-    with_exponent(sign, whole, fraction, behind)
+    let (sign, rest) = one(Class::Sign, cs);
+    let (integer, rest) = run(Class::Digit, rest);
+    let (fraction, rest) = read_fraction(rest);
+    with_exponent(sign, integer, fraction, rest)
 }
 
 impl<'a> Numeral<'a> {
@@ -142,7 +142,7 @@ impl<'a> Numeral<'a> {
     {
         let point = if self.fraction.is_empty() { 0 } else { 1 };
         self.sign.len()
-            + self.whole.len()
+            + self.integer.len()
             + point
             + self.fraction.len()
             + self.mark.len()
@@ -152,22 +152,22 @@ impl<'a> Numeral<'a> {
 
     /// Its size in millionths, limited.
     fn size(&self) -> u128
-        requires whole { list_all is_digit (numeral_view self.now).whole ≡ true }
+        requires integer { list_all is_digit (numeral_view self.now).integer ≡ true }
         requires fraction { list_all is_digit (numeral_view self.now).fraction ≡ true }
         ensures { result ≡ min (10 ^ 15) (written.magnitude (numeral_view self.now)) }
     {
         if begins(Class::Hyphen, self.exponent_sign) {
-            reduced(self.whole, self.fraction, self.exponent)
+            reduced(self.integer, self.fraction, self.exponent)
         } else {
-            enlarged(self.whole, self.fraction, self.exponent)
+            enlarged(self.integer, self.fraction, self.exponent)
         }
     }
 
     /// Its value in millionths.
     fn millionths(&self) -> Fixed6
-        requires whole { list_all is_digit (numeral_view self.now).whole ≡ true }
+        requires integer { list_all is_digit (numeral_view self.now).integer ≡ true }
         requires fraction { list_all is_digit (numeral_view self.now).fraction ≡ true }
-        ensures { result ≡ written.millionths_of (numeral_view self.now) }
+        ensures { result ≡ written.value_of (numeral_view self.now) }
     {
         let size = self.size() as i128;
         if begins(Class::Hyphen, self.sign) {
@@ -179,13 +179,13 @@ impl<'a> Numeral<'a> {
 
     /// Its value, and how it was written.
     pub fn number(&self) -> Number
-        requires whole { list_all is_digit (numeral_view self.now).whole ≡ true }
+        requires integer { list_all is_digit (numeral_view self.now).integer ≡ true }
         requires fraction { list_all is_digit (numeral_view self.now).fraction ≡ true }
-        ensures { number_view result ≡ written.number_of (numeral_view self.now) }
+        ensures { result ≡ written.number_of (numeral_view self.now) }
     {
         Number {
             millionths: self.millionths(),
-            is_whole: self.fraction.is_empty() && self.exponent.is_empty(),
+            is_integer: self.fraction.is_empty() && self.exponent.is_empty(),
             is_signed: !self.sign.is_empty(),
         }
     }

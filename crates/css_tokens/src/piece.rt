@@ -1,33 +1,37 @@
+//! What is consumed at the front of a text (CSS Syntax 3, section 4.3).
 ghost use Rattle.std.specs.Prelude.{◌≡◌, Some, None};
 
-use super::token::TokenKind;
+use css_model::TokenType;
 
-/// What stands in front of a text: a token, or a comment.
+/// What is in front of a text: a token, or a comment.
 #[derive(Debug, Drop)]
 pub struct Piece {
-    /// The class of the token; a comment has none.
-    pub kind: Option<TokenKind>,
-    /// How many characters it has.
+    /// The type of the token; a comment has none.
+    pub token_type: Option<TokenType>,
+    /// How many code points it has.
     pub count: usize,
 }
 
 impl Piece {
-    /// A token of this class.
-    pub fn token(kind: TokenKind, count: usize) -> Piece
-        ensures kind { result.kind ≡ Some kind }
+    /// A token of this type.
+    pub fn token(token_type: TokenType, count: usize) -> Piece
+        ensures token_type { result.token_type ≡ Some token_type }
         ensures count { result.count ≡ count }
     {
         Piece {
-            kind: Some(kind),
+            token_type: Some(token_type),
             count,
         }
     }
 
     /// A comment.
     pub fn comment(count: usize) -> Piece
-        ensures kind { result.kind ≡ None }
+        ensures token_type { result.token_type ≡ None }
         ensures count { result.count ≡ count }
     {
-        Piece { kind: None, count }
+        Piece {
+            token_type: None,
+            count,
+        }
     }
 }

@@ -2,12 +2,12 @@
 ghost use Rattle.std.specs.Prelude.{◌≡◌, ◌++◌, IfOk, OnOk};
 ghost use Rattle.std.specs.Str.{chars};
 ghost use Rattle.css_model.specs.Preprocessing as model;
-ghost use Rattle.css_tokens.specs.Replacing.{kept_behind};
+ghost use Rattle.css_tokens.specs.inner.Replacing.{kept_after};
 
 use port_core::NoMemory;
 use std::alloc::Global;
 
-/// The preprocessed characters of a text.
+/// The code points of `text`, preprocessed.
 pub fn preprocess(alloc: Global, text: &str) -> Result<Vec<char>, NoMemory>
     ensures { IfOk result (λ cs. cs.items ≡ model.preprocessed (chars text.now)) }
 {
@@ -20,9 +20,9 @@ pub fn preprocess(alloc: Global, text: &str) -> Result<Vec<char>, NoMemory>
     Ok(kept)
 }
 
-/// Keeps what becomes of a character behind another one: nothing of a newline behind a carriage return, which became a newline itself.
+/// Appends what `c` becomes after `before`: nothing, if it is a newline after a carriage return.
 fn keep(kept: &mut Vec<char>, before: char, c: char) -> Result<(), NoMemory>
-    ensures { OnOk result (kept.new.items ≡ kept.old.items ++ kept_behind before c) }
+    ensures { OnOk result (kept.new.items ≡ kept.old.items ++ kept_after before c) }
 {
     if before != '\r' || c != '\n' {
         kept.push(replaced(c))?;

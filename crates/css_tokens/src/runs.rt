@@ -1,21 +1,21 @@
-//! The characters of one class in front of a text.
+//! The code points of one class in front of a text.
 ghost use Rattle.std.specs.Prelude.{◌≡◌, ◌≤◌, length, drop};
 ghost use Rattle.std.specs.List.{prefix_len};
 ghost use Rattle.css_model.specs.Classes as model;
-ghost use Rattle.css_model.specs.Fronts.{one_in, run_in};
-ghost use Rattle.css_tokens.specs.Tests.{test_of};
+ghost use Rattle.css_model.specs.inner.Fronts.{one_in, run_in};
+ghost use Rattle.css_tokens.specs.inner.Classes.{test_of};
 
-use super::classes::Class;
+use crate::classes::Class;
 
-/// What stands behind so many characters.
-pub fn behind<'a>(cs: &'a [char], count: usize) -> &'a [char]
+/// `cs` without its first `count` code points.
+pub fn after<'a>(cs: &'a [char], count: usize) -> &'a [char]
     requires { count ≤ length cs.now }
     ensures { result.now ≡ drop count cs.now }
 {
     cs.split_at(count).1
 }
 
-/// Whether the first character is of this class.
+/// Whether the first code point of `cs` is of this class.
 pub fn begins(class: Class, cs: &[char]) -> bool
     ensures { result ≡ model.begins (test_of class) cs.now }
 {
@@ -25,16 +25,16 @@ pub fn begins(class: Class, cs: &[char]) -> bool
     }
 }
 
-/// The characters of this class in front, and what stands behind them.
+/// The code points of this class in front of `cs`, and the rest.
 pub fn run<'a>(class: Class, cs: &'a [char]) -> (&'a [char], &'a [char])
     ensures front { result.0.now ≡ run_in (test_of class) cs.now }
-    ensures behind { result.1.now ≡ drop (length (run_in (test_of class) cs.now)) cs.now }
+    ensures rest { result.1.now ≡ drop (length (run_in (test_of class) cs.now)) cs.now }
     ensures within { length result.0.now ≤ length cs.now }
 {
     cs.split_at(run_length(class, cs))
 }
 
-/// How many characters of this class stand in front.
+/// How many code points of this class are in front of `cs`.
 fn run_length(class: Class, cs: &[char]) -> usize
     ensures run { result ≡ prefix_len (test_of class) cs.now }
     ensures within { result ≤ length cs.now }
@@ -42,10 +42,10 @@ fn run_length(class: Class, cs: &[char]) -> usize
     cs.iter().take_while(|c| class.has(**c)).count()
 }
 
-/// The first character, if it is of this class, and what stands behind it.
+/// The first code point of `cs`, if it is of this class, and the rest.
 pub fn one<'a>(class: Class, cs: &'a [char]) -> (&'a [char], &'a [char])
     ensures front { result.0.now ≡ one_in (test_of class) cs.now }
-    ensures behind { result.1.now ≡ drop (length (one_in (test_of class) cs.now)) cs.now }
+    ensures rest { result.1.now ≡ drop (length (one_in (test_of class) cs.now)) cs.now }
     ensures within { length result.0.now ≤ length cs.now }
 {
     let count = if begins(class, cs) { 1 } else { 0 };

@@ -1,41 +1,42 @@
-use crate::{Bracket, Number, TokenKind, tokenize};
+//! Rows of texts with their tokens (CSS Syntax 3, section 4.3).
+use crate::{Bracket, Number, TokenType, tokenize};
 use std::alloc::{AllocError, Global};
 use std::process::Abort;
 use std::test::Fail;
 
 /// Spells a number: its millionths, and whether it is whole and has a sign.
 fn spell_number(alloc: Global, n: Number) -> Result<String, AllocError> {
-    let whole = if n.is_whole { " whole" } else { "" };
+    let whole = if n.is_integer { " whole" } else { "" };
     let signed = if n.is_signed { " signed" } else { "" };
     format!(in alloc; "{}{whole}{signed}", n.millionths.get())
 }
 
 /// Spells the class and the value of a token.
-fn spell_kind(alloc: Global, kind: &TokenKind) -> Result<String, AllocError> {
-    match kind {
-        TokenKind::Ident(name) => format!(in alloc; "ident {}", name.as_str()),
-        TokenKind::Function(name) => format!(in alloc; "function {}", name.as_str()),
-        TokenKind::AtKeyword(name) => format!(in alloc; "at {}", name.as_str()),
-        TokenKind::Hash { name, is_id: true } => format!(in alloc; "id {}", name.as_str()),
-        TokenKind::Hash { name, is_id: false } => format!(in alloc; "hash {}", name.as_str()),
-        TokenKind::String(value) => format!(in alloc; "string {}", value.as_str()),
-        TokenKind::BadString => String::from_str(alloc, "bad string"),
-        TokenKind::Url(value) => format!(in alloc; "url {}", value.as_str()),
-        TokenKind::BadUrl => String::from_str(alloc, "bad url"),
-        TokenKind::Delim(c) => format!(in alloc; "delim {c}"),
-        TokenKind::Number(n) => format!(in alloc; "number {}", spell_number(alloc, *n)?),
-        TokenKind::Percentage(n) => format!(in alloc; "percentage {}", spell_number(alloc, *n)?),
-        TokenKind::Dimension(n, unit) => {
+fn spell_type(alloc: Global, token_type: &TokenType) -> Result<String, AllocError> {
+    match token_type {
+        TokenType::Ident(name) => format!(in alloc; "ident {}", name.as_str()),
+        TokenType::Function(name) => format!(in alloc; "function {}", name.as_str()),
+        TokenType::AtKeyword(name) => format!(in alloc; "at {}", name.as_str()),
+        TokenType::Hash { name, is_id: true } => format!(in alloc; "id {}", name.as_str()),
+        TokenType::Hash { name, is_id: false } => format!(in alloc; "hash {}", name.as_str()),
+        TokenType::String(value) => format!(in alloc; "string {}", value.as_str()),
+        TokenType::BadString => String::from_str(alloc, "bad string"),
+        TokenType::Url(value) => format!(in alloc; "url {}", value.as_str()),
+        TokenType::BadUrl => String::from_str(alloc, "bad url"),
+        TokenType::Delim(c) => format!(in alloc; "delim {c}"),
+        TokenType::Number(n) => format!(in alloc; "number {}", spell_number(alloc, *n)?),
+        TokenType::Percentage(n) => format!(in alloc; "percentage {}", spell_number(alloc, *n)?),
+        TokenType::Dimension(n, unit) => {
             format!(in alloc; "dimension {} {}", unit.as_str(), spell_number(alloc, *n)?)
         }
-        TokenKind::Whitespace => String::from_str(alloc, "white"),
-        TokenKind::Cdo => String::from_str(alloc, "cdo"),
-        TokenKind::Cdc => String::from_str(alloc, "cdc"),
-        TokenKind::Colon => String::from_str(alloc, "colon"),
-        TokenKind::Semicolon => String::from_str(alloc, "semicolon"),
-        TokenKind::Comma => String::from_str(alloc, "comma"),
-        TokenKind::Opening(bracket) => format!(in alloc; "open {}", spell_bracket(*bracket)),
-        TokenKind::Closing(bracket) => format!(in alloc; "close {}", spell_bracket(*bracket)),
+        TokenType::Whitespace => String::from_str(alloc, "white"),
+        TokenType::Cdo => String::from_str(alloc, "cdo"),
+        TokenType::Cdc => String::from_str(alloc, "cdc"),
+        TokenType::Colon => String::from_str(alloc, "colon"),
+        TokenType::Semicolon => String::from_str(alloc, "semicolon"),
+        TokenType::Comma => String::from_str(alloc, "comma"),
+        TokenType::Opening(bracket) => format!(in alloc; "open {}", spell_bracket(*bracket)),
+        TokenType::Closing(bracket) => format!(in alloc; "close {}", spell_bracket(*bracket)),
     }
 }
 
@@ -55,8 +56,8 @@ fn spell_tokens(alloc: Global, text: &str) -> Result<String, AllocError> {
         if !spelled.is_empty() {
             spelled.push_str(" | ")?;
         }
-        let kind = spell_kind(alloc, &token.kind)?;
-        spelled.push_str(kind.as_str())?;
+        let spelled_type = spell_type(alloc, &token.token_type)?;
+        spelled.push_str(spelled_type.as_str())?;
         let place = format!(in alloc; " @{}-{}", token.start, token.end)?;
         spelled.push_str(place.as_str())?;
     }

@@ -28,7 +28,6 @@ use Rattle.page_model.specs.Document.{AreDistinct, IsAmong, Node, Nodes, all_ids
 use Rattle.page_model.specs.Edits.{tree_after_insert, with_child}
 use Rattle.page_model.specs.Trees.{Attribute, Text, Tree, Trees, depth, depths, elem, size, sizes, text_size, text_sizes, tree, trees_of, value_size}
 use Rattle.page_model.specs.declared.limits.TheConstants.{MAX_NODES}
-use Rattle.port_core.specs.Reader.{fresh}
 use Rattle.dom_arena.specs.declared.link.Link.{Link}
 use Rattle.dom_arena.specs.declared.slot.Content.{Content}
 use Rattle.dom_arena.specs.declared.slot.Content.TheVariants.{Chars, Element, Free}

@@ -9,11 +9,7 @@ use crate::attrs::Attribute;
 pub fn code_points(text: &str) -> usize
     ensures { result ≡ length (chars text.now) }
 {
-    let mut count = 0;
-    for _code_point in text.chars() {
-        count += 1;
-    }
-    count
+    text.chars().count()
 }
 
 /// Returns the number of code points of the values of `attributes` together, or 2^64 - 1 where it is greater.

@@ -3,8 +3,7 @@ use Rattle.std.proofs.Common.{◌≡◌, ℕ, List, [], ◌∷◌, ◌++◌, Opt
 use Rattle.std.specs.Prelude.{option_and_then}
 use Rattle.serde_json.specs.Data.{Data, null, boolean, number, string, array, object, Members, member}
 use Rattle.page_model.specs.Trees.{Attribute}
-use Rattle.page_model.specs.Jsonml.{attributes_of}
-use Rattle.jsonml_reader.specs.Reading.{attribute_of}
+use Rattle.page_model.specs.Jsonml.{attribute_of, attributes_of}
 
 -- attributes that were read, and then the ones that are read from what is left
 abbrev pub attributes_then : List Attribute → Option (List Attribute) → Option (List Attribute)
@@ -15,17 +14,7 @@ attributes_then-push : (before : List Attribute) (a : Attribute) (read : Option 
 attributes_then-push before a None = refl
 attributes_then-push before a (Some rest) = ap Some (sym (append_assoc before (a ∷ []) rest))
 
--- one member by itself, and then the others
-attributes_of-member : (name : List ℕ) (d : Data) (ms : Members)
-    → attributes_of (member name d ms) ≡ option_and_then (λ a. option_map (λ rest. a ∷ rest) (attributes_of ms)) (attribute_of name d)
-attributes_of-member name null ms = refl
-attributes_of-member name (boolean b) ms = refl
-attributes_of-member name (number n) ms = refl
-attributes_of-member name (string value) ms = refl
-attributes_of-member name (array ds) ms = refl
-attributes_of-member name (object os) ms = refl
-
 -- one more attribute was read
 pub attributes_then-member : (before : List Attribute) (a : Attribute) (name : List ℕ) (d : Data) (ms : Members) → attribute_of name d ≡ Some a
     → attributes_then before (attributes_of (member name d ms)) ≡ attributes_then (before ++ a ∷ []) (attributes_of ms)
-attributes_then-member before a name d ms e = rw (attributes_of-member name d ms, e) (attributes_then-push before a (attributes_of ms))
+attributes_then-member before a name d ms e = rw e (attributes_then-push before a (attributes_of ms))

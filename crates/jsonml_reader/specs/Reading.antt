@@ -1,11 +1,11 @@
 -- What reading a part of a value answers.
 use Rattle.std.specs.Prelude.{◌≡◌, ℕ, List, map, Option, Some, None, Result, Ok, Err}
 use Rattle.std.specs.Str.{chars}
-use Rattle.serde_json.specs.Data.{Data, null, boolean, number, string, array, object, Items, no_items, item}
+use Rattle.serde_json.specs.Data.{string, Items, item}
 use Rattle.dom_arena.specs.declared.tree.Tree.{Tree}
 use Rattle.dom_arena.specs.Shape.{shape}
 use Rattle.page_model.specs.Trees as model
-use Rattle.page_model.specs.Trees.{Text, Attribute, Trees}
+use Rattle.page_model.specs.Trees.{Text, Trees}
 use Rattle.jsonml_reader.specs.declared.fault.TreeFault.{TreeFault}
 use Rattle.jsonml_reader.specs.declared.fault.TreeFault.TheVariants as fault
 
@@ -19,21 +19,7 @@ Reads view (Err fault.NoMemory) read = Unit {0}
 abbrev pub ReadsAll : Result (List Tree) TreeFault → Option Trees → Type 0
 ReadsAll result read = Reads (λ trees. model.trees_of (map shape trees)) result read
 
--- the attribute that a member is, if its value is a string
-abbrev pub attribute_of : List ℕ → Data → Option Attribute
-attribute_of name null = None
-attribute_of name (boolean b) = None
-attribute_of name (number n) = None
-attribute_of name (string value) = Some (chars name, chars value)
-attribute_of name (array ds) = None
-attribute_of name (object ms) = None
-
 -- the name of an element, if its first item is a string
 abbrev pub name_at : Items → Option Text
-name_at no_items = None
-name_at (item null ds) = None
-name_at (item (boolean b) ds) = None
-name_at (item (number n) ds) = None
 name_at (item (string name) ds) = Some (chars name)
-name_at (item (array es) ds) = None
-name_at (item (object ms) ds) = None
+name_at ds = None

@@ -1,6 +1,6 @@
-ghost use Rattle.page_model.specs.Jsonml.{attributes_of};
+ghost use Rattle.page_model.specs.Jsonml.{attribute_of, attributes_of};
 ghost use Rattle.serde_json.specs.View.{view, members_view};
-ghost use Rattle.jsonml_reader.specs.Reading.{Reads, attribute_of};
+ghost use Rattle.jsonml_reader.specs.Reading.{Reads};
 
 use crate::fault::TreeFault;
 use dom_arena::{Attribute, Attrs};
@@ -26,14 +26,10 @@ pub(crate) fn read_attributes(
 fn read_attribute(alloc: Global, name: &str, value: &Value) -> Result<Attribute, TreeFault>
     ensures { Reads (λ attribute. attribute) result (attribute_of name.now (view value.now)) }
 {
-    match value {
-        Value::String(text) => {
-            let name = Text::new(alloc, name)?;
-            let value = Text::new(alloc, text.as_str())?;
-            Ok((name, value))
-        }
-        Value::Null | Value::Bool(_) | Value::Number(_) | Value::Array(_) | Value::Object(_) => {
-            Err(TreeFault::Shape)
-        }
-    }
+    let Some(text) = value.as_str() else {
+        return Err(TreeFault::Shape);
+    };
+    let name = Text::new(alloc, name)?;
+    let value = Text::new(alloc, text)?;
+    Ok((name, value))
 }

@@ -1,7 +1,7 @@
 -- What is the same for a whole run of the program.
 use Rattle.std.specs.Prelude.{ℕ, List, []}
 
--- how far characters advance, in 64ths of the font size: those of a range all alike
+-- how far characters advance, in 64ths of the font size: all characters of a range alike
 pub record Range : Type 0 where
   pub first : ℕ
   pub last : ℕ
@@ -16,7 +16,7 @@ pub record Advances : Type 0 where
 abbrev pub default_advances : Advances
 default_advances = record { default = 32; ranges = [] }
 
--- how wide characters are, and the number of the set of rules by which the program goes; there is only 1
+-- how wide characters are, and the profile, the set of rules by which the program goes; there is only 1
 pub record Setting : Type 0 where
   pub advances : Advances
   pub profile : ℕ

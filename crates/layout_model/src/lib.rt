@@ -4,4 +4,4 @@
 
 mod examples;
 
-pub use examples::{examples_of_blocks, examples_of_settings};
+pub use examples::{examples_of_assignments, examples_of_blocks, examples_of_settings};

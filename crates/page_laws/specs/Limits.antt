@@ -6,14 +6,18 @@ use Rattle.page_model.specs.Trees.{value_size, has_bad_name, has_long_text, has_
 use Rattle.page_model.specs.declared.limits.TheConstants.{MAX_DEPTH, MAX_IDS, MAX_NODES, MAX_TEXTS}
 use Rattle.page_model.specs.declared.cause.Cause.TheVariants.{BadName, AttrLimit, TextLimit, DepthLimit, NodeLimit, IdLimit}
 
--- a name is not in the grammar of names, an element has too many attributes, a text is or all of them are too long,
--- a node stands too deep, there are too many nodes, or too many ids were given
-abbrev pub broken_limits : Document → Causes
-broken_limits d =
+-- a name is not in the grammar of names, an element has too many attributes, or a text is or all of them are too long
+abbrev pub broken_grammar : Document → Causes
+broken_grammar d =
     (has_bad_name (without_ids d.root), BadName)
     ∷ (has_many_attributes (without_ids d.root), AttrLimit)
     ∷ (has_long_text (without_ids d.root) || nat_lt MAX_TEXTS (text_size (without_ids d.root)), TextLimit)
-    ∷ (nat_lt MAX_DEPTH (height d.root), DepthLimit)
+    ∷ []
+
+-- a node stands too deep, there are too many nodes, or too many ids were given
+abbrev pub broken_limits : Document → Causes
+broken_limits d =
+    (nat_lt MAX_DEPTH (height d.root), DepthLimit)
     ∷ (nat_lt MAX_NODES (node_count d.root), NodeLimit)
     ∷ (nat_lt MAX_IDS d.next_id, IdLimit)
     ∷ []

@@ -1,9 +1,9 @@
 //! The limits that an edit breaks.
 ghost use Rattle.std.specs.Prelude.{Some, max, nat_lt, ℕ, ◌+◌, ◌≡◌, ◌≤◌};
 ghost use Rattle.page_laws.specs.ChildLists.{IsPlace, TakesChildren};
-ghost use Rattle.page_laws.specs.Limits.{KeepsGrammar, broken_limits};
+ghost use Rattle.page_laws.specs.Limits.{KeepsGrammar, broken_grammar, broken_limits};
 ghost use Rattle.page_model.specs.Document.{Document, document, height, node_count, without_ids};
-ghost use Rattle.page_model.specs.Edits.{document_after_insert, insert_causes, level, load_causes};
+ghost use Rattle.page_model.specs.Edits.{document_after_insert, grammar_causes, insert_causes, level, load_causes, nothing_taken, taken_below};
 ghost use Rattle.page_model.specs.Refusals.{first_of};
 ghost use Rattle.page_model.specs.Trees.{Tree, depth, size, text_size};
 ghost use Rattle.page_model.specs.declared.limits.TheConstants.{MAX_DEPTH};
@@ -37,12 +37,27 @@ pub fn depth_of_insert()
 {}
 
 /// The limit that refuses an insert is the first that the document after it would break, if the
-/// document breaks none.
+/// document is not too deep.
 pub fn of_insert()
     ensures { (parent index : ℕ) (t : Tree) (d : Document) → IsPlace parent index d
-        → KeepsGrammar d.root → height d.root ≤ MAX_DEPTH
+        → height d.root ≤ MAX_DEPTH
         → first_of (insert_causes parent index t d)
         ≡ first_of (broken_limits (document_after_insert parent index t d)) }
+{}
+
+/// A new tree breaks the limits on names, attributes and texts that the document after its insert
+/// would, if the document breaks none.
+pub fn grammar_of_insert()
+    ensures { (parent index : ℕ) (t : Tree) (d : Document) → TakesChildren parent d
+        → KeepsGrammar d.root
+        → grammar_causes (taken_below parent d) t
+        ≡ broken_grammar (document_after_insert parent index t d) }
+{}
+
+/// A loaded tree breaks the limits on names, attributes and texts that the document after the
+/// load would.
+pub fn grammar_of_load()
+    ensures { (t : Tree) → grammar_causes nothing_taken t ≡ broken_grammar (document t) }
 {}
 
 /// The limit that refuses a load is the first that the document after it would break.

@@ -125,15 +125,25 @@ taken_below parent d = record {
   code_points = text_size (without_ids d.root);
 }
 
-abbrev pub tree_causes : Taken → Tree → Causes
-tree_causes taken t =
+-- what no new tree may have: a name that is not in the grammar of names, too many attributes, too long texts
+abbrev pub grammar_causes : Taken → Tree → Causes
+grammar_causes taken t =
     (has_bad_name t, BadName)
     ∷ (has_many_attributes t, AttrLimit)
     ∷ (has_long_text t || nat_lt MAX_TEXTS (taken.code_points + text_size t), TextLimit)
-    ∷ (nat_lt MAX_DEPTH (taken.level + depth t), DepthLimit)
+    ∷ []
+
+abbrev pub size_causes : Taken → Tree → Causes
+size_causes taken t =
+    (nat_lt MAX_DEPTH (taken.level + depth t), DepthLimit)
     ∷ (nat_lt MAX_NODES (taken.nodes + size t), NodeLimit)
     ∷ (nat_lt MAX_IDS (taken.ids + size t), IdLimit)
     ∷ []
+
+-- `grammar_causes` come before these once documents are kept with names, attributes and texts; until then requests with
+-- such trees are refused as not built
+abbrev pub tree_causes : Taken → Tree → Causes
+tree_causes taken t = size_causes taken t
 
 -- a load replaces what was loaded
 abbrev pub load_causes : Tree → Causes

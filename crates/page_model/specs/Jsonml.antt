@@ -1,36 +1,27 @@
--- The tree that a JSON value stands for, in JsonML: a string is a text, and an array is an element, its name first, then its attributes in an object if there is one, then its children.
-use Rattle.std.specs.Prelude.{List, [], ◌∷◌, Bool, true, false, if◌then◌else◌, Option, Some, None, option_and_then, option_map}
+-- The tree that a JSON value stands for in JsonML's array form: a string is a text, and an array is an element: its
+-- name first, then its attributes in an object if there is one, then its children.
+use Rattle.std.specs.Prelude.{ℕ, List, [], ◌∷◌, Bool, if◌then◌else◌, Option, Some, None, is_some, option_and_then, option_map}
 use Rattle.std.specs.Str.{chars}
-use Rattle.serde_json.specs.Data.{Data, null, boolean, number, string, array, object, Items, no_items, item, Members, no_members, member}
+use Rattle.serde_json.specs.Data.{Data, string, array, object, Items, no_items, item, Members, no_members, member}
+use Rattle.serde_json.specs.Find.{as_str, as_object}
 use Rattle.page_model.specs.Trees.{Text, Attribute, Tree, elem, characters, Trees, no_trees, tree, is_elem}
 
--- the attributes that an object's members are, each value a string
+-- the attribute that a member is: its value is a string
+abbrev pub attribute_of : List ℕ → Data → Option Attribute
+attribute_of name d = option_map (λ value. (chars name, chars value)) (as_str d)
+
+-- the attributes that an object's members are
 abbrev pub attributes_of : Members → Option (List Attribute)
 attributes_of no_members = Some []
-attributes_of (member name (string value) ms) = option_map (λ rest. (chars name, chars value) ∷ rest) (attributes_of ms)
-attributes_of (member name null ms) = None
-attributes_of (member name (boolean b) ms) = None
-attributes_of (member name (number n) ms) = None
-attributes_of (member name (array ds) ms) = None
-attributes_of (member name (object os) ms) = None
+attributes_of (member name d ms) = option_and_then (λ a. option_map (λ rest. a ∷ rest) (attributes_of ms)) (attribute_of name d)
 
 abbrev pub is_object : Data → Bool
-is_object null = false
-is_object (boolean b) = false
-is_object (number n) = false
-is_object (string s) = false
-is_object (array ds) = false
-is_object (object ms) = true
+is_object d = is_some (as_object d)
 
--- the attributes of an element of which this stands behind the name
+-- the attributes among the items after an element's name
 abbrev pub attributes_at : Items → Option (List Attribute)
-attributes_at no_items = Some []
-attributes_at (item null ds) = Some []
-attributes_at (item (boolean b) ds) = Some []
-attributes_at (item (number n) ds) = Some []
-attributes_at (item (string s) ds) = Some []
-attributes_at (item (array es) ds) = Some []
 attributes_at (item (object ms) ds) = attributes_of ms
+attributes_at ds = Some []
 
 -- an element of its parts, if each was read
 abbrev pub elem_from : Text → Option (List Attribute) → Option Trees → Option Tree
@@ -42,23 +33,15 @@ tree_and t ts = option_and_then (λ first. option_map (tree first) ts) t
 
 abbrev mutual
   pub tree_of : Data → Option Tree
-  tree_of null = None
-  tree_of (boolean b) = None
-  tree_of (number n) = None
   tree_of (string s) = Some (characters (chars s))
   tree_of (array ds) = element_of ds
-  tree_of (object ms) = None
+  tree_of d = None
 
   pub element_of : Items → Option Tree
-  element_of no_items = None
-  element_of (item null ds) = None
-  element_of (item (boolean b) ds) = None
-  element_of (item (number n) ds) = None
   element_of (item (string name) ds) = elem_from (chars name) (attributes_at ds) (children_of ds)
-  element_of (item (array es) ds) = None
-  element_of (item (object ms) ds) = None
+  element_of ds = None
 
-  -- the children of an element of which this stands behind the name
+  -- the children among the items after an element's name
   pub children_of : Items → Option Trees
   children_of no_items = Some no_trees
   children_of (item d ds) = if is_object d then trees_of_items ds else tree_and (tree_of d) (trees_of_items ds)

@@ -82,7 +82,7 @@ abbrev pub first_of : Causes → Option Cause
 first_of [] = None
 first_of (c ∷ cs) = if c.0 then Some c.1 else first_of cs
 
--- a cause that was told is the first that holds; where none was told memory was wanting, which may be at any time
+-- a cause is the first that holds; `None` is want of memory, which may come at any time
 abbrev pub IsFirstCause : Causes → Option Cause → Type 0
 IsFirstCause causes None = Unit {0}
 IsFirstCause causes (Some c) = first_of causes ≡ Some c

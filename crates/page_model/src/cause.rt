@@ -38,7 +38,7 @@ pub enum Cause {
     ViewportRange,
     /// There would be too many style sheets, or one is too large.
     SheetLimit,
-    /// There is not a style sheet at this place.
+    /// No style sheet has this index.
     NoSheet,
     /// An element would have more than 64 attributes.
     AttrLimit,

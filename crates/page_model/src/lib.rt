@@ -12,7 +12,7 @@ mod refusal;
 mod viewport;
 
 pub use cause::Cause;
-pub use examples::examples_of_causes;
+pub use examples::{examples_of_causes, examples_of_jsonml};
 pub use examples_of_documents::{
     examples_of_attributes, examples_of_limits, examples_of_names, examples_of_readers,
 };

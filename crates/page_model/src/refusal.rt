@@ -54,7 +54,7 @@ pub enum Refusal {
     /// There would be too many style sheets, or one is too large.
     #[error("the style sheets are too many or too large")]
     SheetLimit,
-    /// There is not a style sheet at this place.
+    /// No style sheet has this index.
     #[error("there is no such style sheet")]
     NoSheet,
     /// An element would have more than 64 attributes.

@@ -1,6 +1,7 @@
-pub mod CollectLemmas
-pub mod LedgerLemmas
-pub mod LineLemmas
+pub mod CollectsLemmas
+pub mod CountsLemmas
+pub mod LinesLemmas
 pub mod MemoryLemmas
-pub mod ReadLemmas
+pub mod ReadsLemmas
 pub mod StreamLemmas
+mod CharLemmas

@@ -1,8 +1,6 @@
+pub mod Text
 pub mod Ports
 pub mod Memory
 pub mod Standard
-pub mod Past
 pub mod Reader
-pub mod Draft
-pub mod Window
-pub mod Reads
+pub mod inner

@@ -1,4 +1,4 @@
--- What a source or a sink in memory is, and what its next call answers and leaves.
+-- A source and a sink in memory: what their next call answers, and what it leaves.
 use Rattle.std.specs.Prelude.{ℕ, ◌+◌, ◌-◌, ◌<◌, ◌≤◌, ◌==◌, min, nat_le, List, ◌++◌, length, take, drop, Option, Some, None, Bool, false, if◌then◌else◌}
 use Rattle.std.specs.Option.{ForSome}
 use Rattle.stream_model.specs.Streams.{SourceState, SinkState, last_count}
@@ -7,7 +7,8 @@ use Rattle.port_core.specs.declared.ports.Pull.TheVariants as pull
 use Rattle.port_core.specs.declared.ports.Push.{Push}
 use Rattle.port_core.specs.declared.ports.Push.TheVariants as push
 
--- a source in memory: the bytes that are left, how many were taken, the most that a call gives, the place at which it fails, and how often it failed
+-- a source in memory: the bytes left, how many were taken, the most that a pull gives, the place at which it fails if
+-- there is one, and how often it failed
 pub record Supply : Type 0 where
   pub left : List ℕ
   pub taken : ℕ
@@ -19,31 +20,33 @@ pub record Supply : Type 0 where
 abbrev pub supply_seen : Supply → SourceState
 supply_seen s = record { left = Some s.left; taken = s.taken; faults = s.faults }
 
--- the source stands at the place at which it fails, if there is one
+-- taken is the place at which the source fails
 abbrev pub is_at : Option ℕ → ℕ → Bool
 is_at None taken = false
 is_at (Some at) taken = taken == at
 
--- how many of the next bytes stand before the place at which the source fails, if there is one
-abbrev pub up_to : Option ℕ → ℕ → ℕ → ℕ
-up_to None taken count = count
-up_to (Some at) taken count = min count (at - taken)
+-- how many of the next count bytes come before the place at which the source fails
+abbrev pub count_before : Option ℕ → ℕ → ℕ → ℕ
+count_before None taken count = count
+count_before (Some at) taken count = min count (at - taken)
 
--- what holds of a source: it stands within its bytes, and no further than the place at which it fails
+-- the invariant of a source: no more was taken than there are bytes, and than come before the place at which it fails
 pub record IsSupply (bytes : List ℕ) (taken piece : ℕ) (fail_at : Option ℕ) (faults : ℕ) : Type 0 where
   pub some : 0 < piece
   pub within : taken ≤ length bytes
   pub ahead : ForSome fail_at (λ at. taken ≤ at)
   pub counted : faults ≤ last_count
 
--- how many bytes a pull gives that gives any: the least of the piece, the buffer's room, what is left and the way to the failing place
+-- how many bytes a pull gives: the least of the piece, the buffer's room, what is left, and what comes before the place
+-- at which the source fails
 abbrev pub portion : Supply → ℕ → ℕ
-portion s room = up_to s.fail_at s.taken (min (min s.piece room) (length s.left))
+portion s room = count_before s.fail_at s.taken (min (min s.piece room) (length s.left))
 
--- what a pull answers that has so much room
+-- what a pull into a buffer of room bytes answers
 abbrev pub pull_answer : Supply → ℕ → Pull
 pull_answer s room =
-    if is_at s.fail_at s.taken then pull.Failed else (if length s.left == 0 then pull.End else pull.Bytes (portion s room))
+    if is_at s.fail_at s.taken then pull.Failed
+    else (if length s.left == 0 then pull.End else pull.Bytes (portion s room))
 
 -- what a pull leaves
 abbrev pub after_pull : Supply → Pull → Supply
@@ -57,7 +60,7 @@ pub record Store : Type 0 where
   pub room : ℕ
   pub faults : ℕ
 
--- what holds of a sink: its bytes are no more than its room, for which there is memory
+-- the invariant of a sink: its bytes fit its room, and its room the capacity
 pub record IsStore (bytes : List ℕ) (room capacity faults : ℕ) : Type 0 where
   pub within : length bytes ≤ room
   pub taken : room ≤ capacity

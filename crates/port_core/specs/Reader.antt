@@ -1,4 +1,4 @@
--- What a line reader has, and what a call of it gives and leaves, by its answer.
+-- A line reader, and what a call of it gives and leaves, by its answer.
 use Rattle.std.specs.Prelude.{◌≡◌, ℕ, ◌+◌, ◌-◌, ◌*◌, ◌<◌, ◌≤◌, ◌⊎◌, List, [], ◌∷◌, ◌++◌, length, Option, Some, None, option_map}
 use Rattle.stream_model.specs.Streams.{SourceState, CountsFault}
 use Rattle.stream_model.specs.Lines.{newline, lines, IsUnbroken}
@@ -6,7 +6,8 @@ use Rattle.stream_model.specs.declared.limits.TheConstants.{MAX_LINE, MAX_TAKEN}
 use Rattle.port_core.specs.declared.reader.Line.{Line}
 use Rattle.port_core.specs.declared.reader.Line.TheVariants.{Whole, TooLong, End, Failed, Spent}
 
--- What a line reader has: what it pulled and has not given yet, how many bytes it took, the line that it gave, and the answer that it goes on giving.
+-- a line reader: the bytes that it took and has not given yet, how many it took in its life, the line that it gave, and
+-- the answer that it gives from now on if it has stopped
 pub record Reader : Type 0 where
   pub pending : List ℕ
   pub taken : ℕ
@@ -14,10 +15,10 @@ pub record Reader : Type 0 where
   pub stopped : Option Line
 
 -- a reader that has read nothing yet
-abbrev pub fresh : Reader
-fresh = record { pending = []; taken = 0; line = []; stopped = None }
+abbrev pub new_reader : Reader
+new_reader = record { pending = []; taken = 0; line = []; stopped = None }
 
--- what is ahead of a reader: what it has pending, and then what the source has left
+-- the bytes ahead of a reader: those pending, and then those left of the source
 abbrev pub ahead : List ℕ → Option (List ℕ) → Option (List ℕ)
 ahead pending left = option_map (λ bytes. pending ++ bytes) left
 
@@ -40,11 +41,11 @@ Gives End kept stopped all rest = (all ≡ []) × (rest ≡ [])
 Gives Failed kept stopped all rest = (part : List ℕ) × IsUnbroken part × (all ≡ part ++ rest)
 Gives Spent kept stopped all rest = (part : List ℕ) × IsUnbroken part × (all ≡ part ++ rest)
 
--- the reader has not stopped, or has come to the end of the source
+-- the reader has not stopped, or the source has ended
 abbrev pub HasNotFailed : Reader → Type 0
 HasNotFailed r = (r.stopped ≡ None) ⊎ (r.stopped ≡ Some End)
 
--- the reader goes on giving this answer, and has nothing pending
+-- the reader gives this answer from now on, and has nothing pending
 abbrev pub HasStopped : Line → Reader → Type 0
 HasStopped answer r = (r.stopped ≡ Some answer) × (r.pending ≡ [])
 
@@ -64,7 +65,7 @@ KeepsLine End line = line ≡ []
 KeepsLine Failed line = line ≡ []
 KeepsLine Spent line = line ≡ []
 
--- a reader that has come to the end of the source took fewer bytes than it may
+-- a reader whose source has ended took fewer bytes than it may
 abbrev pub EndsEarly : Reader → Type 0
 EndsEarly r = r.stopped ≡ Some End → r.taken < MAX_TAKEN
 
@@ -85,16 +86,16 @@ CountsFaults None End old new = new.faults ≡ old.faults
 CountsFaults None Spent old new = new.faults ≡ old.faults
 CountsFaults (Some stop) answer old new = new.faults ≡ old.faults
 
--- one step for a reader that has not stopped
+-- one for a reader that has not stopped
 abbrev pub going : Option Line → ℕ
 going None = 1
 going (Some stop) = 0
 
--- how much a reader can still do: it falls with each line
+-- a measure of what a reader can still do: it falls with each line
 abbrev pub work : Reader → ℕ
 work r = 2 * (MAX_TAKEN - r.taken) + length r.pending + going r.stopped
 
--- the work falls with a line, by the answer
+-- the work falls with each line
 abbrev pub WorksOff : Line → Reader → Reader → Type 0
 WorksOff Whole old new = work new < work old
 WorksOff TooLong old new = work new < work old

@@ -1,5 +1,6 @@
--- A source over a reader and a sink over a writer: what a call does to the bytes of a reader or a writer that tells them.
-use Rattle.std.specs.Prelude.{ℕ, ◌≤◌, List, [], length, take, Option, None}
+-- A source over a reader and a sink over a writer: what is seen of them, and what a call does to bytes that the reader
+-- or the writer tells.
+use Rattle.std.specs.Prelude.{ℕ, ◌≤◌, ◌==◌, if◌then◌else◌, List, [], length, take, Option, None, Result, Ok, Err}
 use Rattle.std.specs.Io.KnownBytes.{Keeps, Appends, Consumes, IsAtEnd}
 use Rattle.stream_model.specs.Streams.{SourceState, SinkState}
 use Rattle.port_core.specs.declared.ports.Pull.{Pull}
@@ -26,3 +27,13 @@ abbrev pub WritesTo : Push → List ℕ → Option (List ℕ) → Option (List �
 WritesTo push.Done bytes written written' = Appends written written' bytes
 WritesTo push.Failed bytes written written' =
     (k : ℕ) × (k ≤ length bytes) × Appends written written' (take k bytes)
+
+-- what a source answers, by what its reader did with a buffer that is not empty
+abbrev pub pull_of_read : {E : Type 0} → Result ℕ E → Pull
+pull_of_read (Ok n) = if n == 0 then pull.End else pull.Bytes n
+pull_of_read (Err e) = pull.Failed
+
+-- what a sink answers, by the flush after the last write
+abbrev pub push_of_flush : {X E : Type 0} → Result X E → Push
+push_of_flush (Ok x) = push.Done
+push_of_flush (Err e) = push.Failed

@@ -1,6 +1,7 @@
+//! Copies of bytes.
 ghost use Rattle.std.specs.Prelude.{◌≡◌, ◌+◌, ◌≤◌, ◌++◌, length, take, drop, vec_capacity};
 
-/// Copies `count` bytes from `start` on into the front of `buf`.
+/// Copies `count` bytes of `bytes`, from `start` on, into the front of `buf`.
 pub fn copy_piece(bytes: &[u8], start: usize, count: usize, buf: &mut [u8])
     requires in_bytes { start + count ≤ length bytes.now }
     requires in_buf { count ≤ length buf.old }
@@ -9,7 +10,7 @@ pub fn copy_piece(bytes: &[u8], start: usize, count: usize, buf: &mut [u8])
     buf[..count].copy_from_slice(&bytes[start..start + count]);
 }
 
-/// Appends `more`, for which there is room.
+/// Appends `more`, which fits the capacity of `bytes`.
 pub fn append(bytes: &mut Vec<u8>, more: &[u8])
     requires { length bytes.old.items + length more.now ≤ vec_capacity bytes.old }
     ensures items { bytes.new.items ≡ bytes.old.items ++ more.now }

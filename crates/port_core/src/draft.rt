@@ -1,6 +1,7 @@
+//! What is kept of a line while it is read.
 ghost use Rattle.std.specs.Prelude.{◌≡◌, ◌↔◌, ◌+◌, ◌<◌, ◌≤◌, [], ◌++◌, length, IsTrue, IfOk};
 ghost use Rattle.stream_model.specs.declared.limits.TheConstants.{MAX_LINE};
-ghost use Rattle.port_core.specs.Draft.{Absorbs, Settles};
+ghost use Rattle.port_core.specs.inner.Draft.{Absorbs, Settles};
 
 use crate::NoMemory;
 use crate::bytes::append;
@@ -12,7 +13,7 @@ use stream_model::MAX_LINE;
 /// The most bytes of a line that are kept: one more than a line may have shows that it is too long.
 const ROOM: usize = MAX_LINE + 1;
 
-/// What is kept of a line. Its room is taken when it is made.
+/// What is kept of a line. It allocates when it is made, and never again.
 #[derive(Debug, Drop)]
 pub struct Draft {
     bytes: Vec<u8>,
@@ -26,7 +27,8 @@ impl Model for Draft {
 
     ghost view = { λ d. d.bytes.items };
 
-    ghost invariant = { λ d. (length d.bytes.items ≤ MAX_LINE + 1) × (MAX_LINE + 1 ≤ vec_capacity d.bytes) };
+    ghost invariant = { λ d.
+        (length d.bytes.items ≤ MAX_LINE + 1) × (MAX_LINE + 1 ≤ vec_capacity d.bytes) };
 }
 
 impl Draft {
@@ -39,28 +41,28 @@ impl Draft {
         })
     }
 
-    /// What is kept.
+    /// The bytes that are kept.
     pub fn bytes(&self) -> &[u8]
         ensures { result.now ≡ self.now }
     {
         self.bytes.as_slice()
     }
 
-    /// Whether nothing is kept.
+    /// Returns whether no byte is kept.
     pub fn is_empty(&self) -> bool
         ensures { IsTrue result ↔ (self.now ≡ []) }
     {
         self.bytes.is_empty()
     }
 
-    /// Drops what is kept, and not the room.
+    /// Empties the draft, and keeps its capacity.
     pub fn clear(&mut self)
         ensures { self.new ≡ [] }
     {
         self.bytes.clear();
     }
 
-    /// Takes up a piece of the line, as far as the room goes.
+    /// Appends `piece`, or as much of it as fits.
     pub fn absorb(&mut self, piece: &[u8])
         ensures { Absorbs self.old piece.now self.new }
     {
@@ -72,7 +74,7 @@ impl Draft {
         append(&mut self.bytes, &piece[..room]);
     }
 
-    /// Tells a finished line from one that is too long, of which nothing is kept.
+    /// Ends the line: `Whole`, or `TooLong` with the draft emptied.
     pub fn settle(&mut self) -> Line
         ensures { Settles result self.old self.new }
     {

@@ -1,4 +1,5 @@
-//! The edge of the program: what its bytes come from and go to, the lines in them, the ledger of counted work, texts and lists.
+//! The edge of the program: where bytes come from and go to, the lines in them, the ledger of
+//! counted work, texts and lists.
 #![tactic(auto)]
 
 mod bytes;
@@ -6,6 +7,7 @@ mod draft;
 mod memory;
 mod ports;
 mod reader;
+mod short_text;
 mod standard;
 mod steps;
 #[cfg(test)]
@@ -21,4 +23,4 @@ pub use standard::{StdSink, StdSource};
 pub use std::alloc::AllocError as NoMemory;
 pub use steps::{NodeId, Steps};
 pub use stream_model::Kind;
-pub use text::Text;
+pub use text::{Text, push_char};

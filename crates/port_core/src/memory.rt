@@ -1,6 +1,7 @@
+//! A source and a sink in memory.
 ghost use Rattle.std.specs.Prelude.{◌≡◌, ◌+◌, ◌-◌, ◌<◌, ◌≤◌, [], ◌++◌, length, take, drop, IfOk};
 ghost use Rattle.port_core.specs.Ports.{Pulls, Pushes};
-ghost use Rattle.port_core.specs.Memory.{supply_seen, store_seen, is_at, up_to, pull_answer, after_pull, push_answer, after_push};
+ghost use Rattle.port_core.specs.Memory.{supply_seen, store_seen, is_at, count_before, pull_answer, after_pull, push_answer, after_push};
 
 use crate::NoMemory;
 use crate::bytes::{append, copy_piece};
@@ -8,7 +9,7 @@ use crate::ports::{Pull, Push, Sink, Source};
 use std::alloc::Global;
 use std::marker::Model;
 
-/// A source in memory, which gives its bytes in pieces and can be told to fail at a place.
+/// A source in memory that gives its bytes in pieces, and fails at a place where it is told to.
 #[derive(Debug, Drop)]
 pub struct MemSource {
     bytes: Vec<u8>,
@@ -24,14 +25,20 @@ impl Model for MemSource {
 
     ghost Value = { Supply };
 
-    ghost view = { λ s. record { left = drop s.taken s.bytes.items; taken = s.taken; piece = s.piece; fail_at = s.fail_at; faults = s.faults } };
+    ghost view = { λ s. record {
+      left = drop s.taken s.bytes.items;
+      taken = s.taken;
+      piece = s.piece;
+      fail_at = s.fail_at;
+      faults = s.faults;
+    } };
 
     ghost invariant = { λ s. IsSupply s.bytes.items s.taken s.piece s.fail_at s.faults };
 }
 
 impl MemSource {
-    /// A copy of `bytes`, of which each pull gives at most `piece`.
-    /// With `fail_at`, each pull made after exactly so many bytes fails, and none goes past that place.
+    /// Copies `bytes`. A pull gives at most `piece` of them, which is at least 1.
+    /// With `fail_at`, each pull after exactly that many bytes fails, and no pull goes past them.
     pub fn new(
         alloc: Global,
         bytes: &[u8],
@@ -39,7 +46,13 @@ impl MemSource {
         fail_at: Option<u64>,
     ) -> Result<MemSource, NoMemory>
         requires { 1 ≤ piece }
-        ensures { IfOk result (λ s. s ≡ record { left = bytes.now; taken = 0; piece = piece; fail_at = fail_at; faults = 0 }) }
+        ensures { IfOk result (λ s. s ≡ record {
+          left = bytes.now;
+          taken = 0;
+          piece = piece;
+          fail_at = fail_at;
+          faults = 0;
+        }) }
     {
         Ok(MemSource {
             bytes: Vec::from_slice(alloc, bytes)?,
@@ -69,14 +82,14 @@ impl Source for MemSource {
             return Pull::End;
         }
         let most = self.piece.min(buf.len()).min(left);
-        let count = before(self.fail_at, self.taken, most);
+        let count = count_before(self.fail_at, self.taken, most);
         copy_piece(self.bytes.as_slice(), self.taken, count, buf);
         self.taken += count;
         Pull::Bytes(count)
     }
 }
 
-/// Whether exactly as many bytes were taken as `fail_at` says.
+/// Returns whether `taken` is the place at which the source fails.
 fn stands_at(fail_at: Option<u64>, taken: usize) -> bool
     ensures { result ≡ is_at fail_at taken }
 {
@@ -86,9 +99,9 @@ fn stands_at(fail_at: Option<u64>, taken: usize) -> bool
     }
 }
 
-/// How many of the next `count` bytes stand before `fail_at`.
-fn before(fail_at: Option<u64>, taken: usize, count: usize) -> usize
-    ensures { result ≡ up_to fail_at taken count }
+/// How many of the `count` bytes after `taken` come before `fail_at`.
+fn count_before(fail_at: Option<u64>, taken: usize, count: usize) -> usize
+    ensures { result ≡ count_before fail_at taken count }
 {
     match fail_at {
         Some(at) => count.min(at.saturating_sub(taken as u64) as usize),
@@ -96,7 +109,7 @@ fn before(fail_at: Option<u64>, taken: usize, count: usize) -> usize
     }
 }
 
-/// A sink in memory with a room, which is taken when it is made.
+/// A sink in memory that holds a number of bytes. It allocates when it is made, and never again.
 #[derive(Debug, Drop)]
 pub struct MemSink {
     bytes: Vec<u8>,
@@ -116,7 +129,8 @@ impl Model for MemSink {
 }
 
 impl MemSink {
-    /// An empty sink that can hold `room` bytes.
+    /// An empty sink that can hold `room` bytes. The push that passes them appends what fits, and
+    /// fails.
     pub fn new(alloc: Global, room: usize) -> Result<MemSink, NoMemory>
         ensures { IfOk result (λ s. s ≡ record { bytes = []; room = room; faults = 0 }) }
     {
@@ -127,7 +141,7 @@ impl MemSink {
         })
     }
 
-    /// The bytes that it holds.
+    /// The bytes that the sink holds.
     pub fn bytes(&self) -> &[u8]
         ensures { result.now ≡ self.now.bytes }
     {
@@ -151,5 +165,33 @@ impl Sink for MemSink {
         append(&mut self.bytes, &bytes[..room]);
         self.faults = self.faults.saturating_add(1);
         Push::Failed
+    }
+}
+
+#[cfg(test)]
+mod tests {
+    use crate::{MemSink, MemSource, Pull, Push, Sink, Source};
+    use std::test::Fail;
+
+    #[test]
+    fn fails_at_its_place_each_time(rt: HostRuntime) -> Result<(), Fail> {
+        let mut source = MemSource::new(rt.alloc(), b"abc", 2, Some(3))?;
+        let mut buf = [0; 8];
+        assert_eq!(rt; source.pull(&mut buf), Pull::Bytes(2));
+        assert_eq!(rt; source.pull(&mut buf), Pull::Bytes(1));
+        assert_eq!(rt; buf[0], b'c');
+        assert_eq!(rt; source.pull(&mut buf), Pull::Failed);
+        assert_eq!(rt; source.pull(&mut buf), Pull::Failed);
+        Ok(())
+    }
+
+    #[test]
+    fn holds_as_much_as_its_room(rt: HostRuntime) -> Result<(), Fail> {
+        let mut sink = MemSink::new(rt.alloc(), 10)?;
+        assert_eq!(rt; sink.push(b"ok 0 1\n"), Push::Done);
+        assert_eq!(rt; sink.push(b"box 1"), Push::Failed);
+        assert_eq!(rt; sink.push(b""), Push::Done);
+        assert_eq!(rt; sink.bytes(), b"ok 0 1\nbox".as_slice());
+        Ok(())
     }
 }

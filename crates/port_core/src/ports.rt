@@ -3,7 +3,7 @@ ghost use Rattle.std.specs.Prelude.{◌<◌, length};
 ghost use Rattle.stream_model.specs.Streams.{SourceState, SinkState};
 ghost use Rattle.port_core.specs.Ports.{Pulls, Pushes};
 
-/// What a pull answers.
+/// The answer of a pull.
 #[derive(Clone, Copy, Debug, PartialEq, Eq)]
 pub enum Pull {
     /// That many bytes, at least one, are in the front of the buffer.
@@ -14,7 +14,7 @@ pub enum Pull {
     Failed,
 }
 
-/// What a push answers.
+/// The answer of a push.
 #[derive(Clone, Copy, Debug, PartialEq, Eq)]
 pub enum Push {
     /// All bytes were taken.

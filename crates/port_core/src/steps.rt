@@ -1,7 +1,8 @@
+//! The ledger of counted work.
 ghost use Rattle.std.specs.Prelude.{◌≡◌, ℕ, ◌+◌, min, [], ◌∷◌, ◌++◌};
 ghost use Rattle.stream_model.specs.Streams.{last_count};
 ghost use Rattle.stream_model.specs.Ledger.{pair, mark, count_since_mark};
-ghost use Rattle.port_core.specs.Past.{count_of, raised};
+ghost use Rattle.port_core.specs.inner.Past.{count_of, counts_after_pair};
 ghost use Rattle.port_core.specs.declared.steps.Past.TheVariants.{Start};
 
 use std::marker::Model;
@@ -9,10 +10,10 @@ use std::mem;
 use std::snapshot::Snapshot;
 use stream_model::Kind;
 
-/// The number of an element.
+/// The id of a node.
 pub type NodeId = u32;
 
-/// What was logged before, seen by clauses alone.
+/// What was logged, for contracts alone.
 #[derive(Drop)]
 enum Past {
     Start,
@@ -20,7 +21,7 @@ enum Past {
     Marked(Snapshot<Past>),
 }
 
-/// How many pairs of each kind were logged since the last mark, up to the last value of a `u64`.
+/// How many pairs of each kind were logged since the last mark, up to `u64::MAX`.
 #[derive(Clone, Copy, Debug, PartialEq, Eq)]
 struct Counts {
     matches: u64,
@@ -56,7 +57,7 @@ impl Counts {
     }
 
     fn raise(&mut self, kind: Kind)
-        ensures { self.new ≡ raised self.old kind }
+        ensures { self.new ≡ counts_after_pair self.old kind }
     {
         match kind {
             Kind::Match => self.matches = self.matches.saturating_add(1),
@@ -68,8 +69,8 @@ impl Counts {
     }
 }
 
-/// The ledger of counted work, which contracts see as its list of events.
-/// It takes no memory: only the number of pairs of each kind since the last mark is kept.
+/// The ledger of counted work, which contracts see as a list of pairs and marks.
+/// It allocates nothing: it keeps the number of pairs of each kind since the last mark.
 #[derive(Drop)]
 pub struct Steps<L> {
     past: Snapshot<Past>,
@@ -80,7 +81,7 @@ pub struct Steps<L> {
 impl<L> Model for Steps<L> {
     ghost use Rattle.std.specs.Prelude.{List};
     ghost use Rattle.stream_model.specs.Ledger.{Event};
-    ghost use Rattle.port_core.specs.Past.{events_of, CountsSinceMark};
+    ghost use Rattle.port_core.specs.inner.Past.{events_of, CountsSinceMark};
 
     ghost Value = { List Event };
 
@@ -90,7 +91,7 @@ impl<L> Model for Steps<L> {
 }
 
 impl<L: Drop> Steps<L> {
-    /// An empty ledger under `key`, which is kept and never given back.
+    /// An empty ledger under `key`, which it never gives back.
     pub fn new(key: L) -> Steps<L>
         ensures { result ≡ [] }
     {
@@ -101,7 +102,7 @@ impl<L: Drop> Steps<L> {
         }
     }
 
-    /// Begins a request: the counts start anew.
+    /// Marks the start of a load or an edit. The counts start from 0.
     pub fn mark(&mut self)
         ensures { self.new ≡ self.old ++ mark ∷ [] }
     {
@@ -111,7 +112,7 @@ impl<L: Drop> Steps<L> {
         self.counts = Counts::none();
     }
 
-    /// Logs that the work of this kind was done for this element.
+    /// Logs that work of `kind` was done for the node `id`.
     pub fn tick(&mut self, kind: Kind, id: NodeId)
         ensures { self.new ≡ self.old ++ pair kind id ∷ [] }
     {
@@ -121,7 +122,7 @@ impl<L: Drop> Steps<L> {
         self.counts.raise(kind);
     }
 
-    /// How many pairs of this kind were logged since the last mark, up to the last value of a `u64`.
+    /// How many pairs of `kind` were logged since the last mark, up to `u64::MAX`.
     pub fn count(&self, kind: Kind) -> u64
         ensures { result ≡ min (count_since_mark kind self.now) last_count }
     {
@@ -133,4 +134,23 @@ fn start() -> Snapshot<Past>
     ensures { result.value ≡ Start }
 {
     Snapshot::of(&Past::Start)
+}
+
+#[cfg(test)]
+mod tests {
+    use crate::{Kind, Steps};
+
+    #[test]
+    fn counts_since_the_last_mark(rt: HostRuntime) {
+        let mut steps = Steps::new(());
+        steps.tick(Kind::Match, 1);
+        steps.tick(Kind::Match, 2);
+        steps.tick(Kind::Style, 1);
+        assert_eq!(rt; steps.count(Kind::Match), 2);
+        assert_eq!(rt; steps.count(Kind::Style), 1);
+        steps.mark();
+        steps.tick(Kind::Place, 3);
+        assert_eq!(rt; steps.count(Kind::Match), 0);
+        assert_eq!(rt; steps.count(Kind::Place), 1);
+    }
 }

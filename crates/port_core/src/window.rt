@@ -1,7 +1,8 @@
+//! The bytes between a source and a line.
 ghost use Rattle.std.specs.Prelude.{◌≡◌, ◌<◌, ◌≤◌, [], length, take, drop, IfOk};
 ghost use Rattle.port_core.specs.Ports.{Pulls};
 ghost use Rattle.stream_model.specs.declared.limits.TheConstants.{MAX_TAKEN};
-ghost use Rattle.port_core.specs.Window.{Cuts, Refills, Collects};
+ghost use Rattle.port_core.specs.inner.Window.{Cuts, Refills, Collects};
 
 use crate::NoMemory;
 use crate::draft::Draft;
@@ -11,7 +12,7 @@ use std::alloc::Global;
 use std::marker::Model;
 use stream_model::MAX_TAKEN;
 
-/// How many bytes a pull asks for.
+/// The most bytes that a pull asks for.
 const CHUNK: usize = 65_536;
 
 /// The byte that ends a line.
@@ -32,7 +33,7 @@ pub enum Refill {
     More,
     End,
     Failed,
-    /// The window took all that it may.
+    /// The window has taken `MAX_TAKEN` bytes.
     Spent,
 }
 
@@ -45,11 +46,11 @@ pub enum Stop {
     End,
     /// The source failed.
     Failed,
-    /// The window took all that it may.
+    /// The window has taken `MAX_TAKEN` bytes.
     Spent,
 }
 
-/// The bytes that were pulled from a source and not given yet.
+/// The bytes that were pulled from a source and not moved into a line yet.
 #[derive(Debug, Drop)]
 pub struct Window {
     chunk: Vec<u8>,
@@ -60,11 +61,14 @@ pub struct Window {
 
 impl Model for Window {
     ghost use Rattle.std.specs.Prelude.{take, drop};
-    ghost use Rattle.port_core.specs.Window.{Intake, IsWindow};
+    ghost use Rattle.port_core.specs.inner.Window.{Intake, IsWindow};
 
     ghost Value = { Intake };
 
-    ghost view = { λ w. record { pending = drop w.start (take w.end w.chunk.items); taken = w.taken } };
+    ghost view = { λ w. record {
+      pending = drop w.start (take w.end w.chunk.items);
+      taken = w.taken;
+    } };
 
     ghost invariant = { λ w. IsWindow w.start w.end w.chunk.items w.taken };
 }
@@ -82,14 +86,14 @@ impl Window {
         })
     }
 
-    /// What is pending.
+    /// The pending bytes.
     fn pending(&self) -> &[u8]
         ensures { result.now ≡ self.now.pending }
     {
         &self.chunk[self.start..self.end]
     }
 
-    /// Takes the next `count` bytes out.
+    /// Takes out the next `count` bytes.
     fn advance(&mut self, count: usize)
         requires { count ≤ length self.old.pending }
         ensures { self.new ≡ record self.old { pending = drop count self.old.pending } }
@@ -97,7 +101,7 @@ impl Window {
         self.start += count;
     }
 
-    /// Takes all bytes out.
+    /// Takes out all bytes.
     fn empty(&mut self)
         ensures { self.new ≡ record self.old { pending = [] } }
     {
@@ -105,7 +109,7 @@ impl Window {
         self.end = 0;
     }
 
-    /// Moves what is pending of the line into `draft`, and takes out the newline that ends it.
+    /// Moves the pending bytes of the line into `draft`, and takes out the newline that ends it.
     fn cut(&mut self, draft: &mut Draft) -> Cut
         ensures { Cuts result self.old self.new draft.old draft.new }
     {
@@ -124,7 +128,7 @@ impl Window {
         }
     }
 
-    /// Pulls once, where nothing is pending.
+    /// Pulls once; nothing is pending.
     fn refill<I: Source>(&mut self, source: &mut I) -> Refill
         requires { self.old.pending ≡ [] }
         ensures { Refills result self.old self.new (I.seen source.old) (I.seen source.new) }
@@ -146,11 +150,12 @@ impl Window {
         }
     }
 
-    /// Moves the next line into `draft`, as far as the source gives it.
+    /// Moves the next line into `draft`, as far as `source` gives it.
     pub fn collect<I: Source>(&mut self, draft: &mut Draft, source: &mut I) -> Stop
         requires empty { draft.old ≡ [] }
         requires within { self.old.taken ≤ MAX_TAKEN }
-        ensures { Collects result self.old self.new draft.new (I.seen source.old) (I.seen source.new) }
+        ensures { Collects result self.old self.new draft.new
+            (I.seen source.old) (I.seen source.new) }
     {
         loop {
             match self.cut(draft) {
@@ -167,7 +172,7 @@ impl Window {
     }
 }
 
-/// Pulls into the first `room` places of `chunk`.
+/// Pulls into the first `room` bytes of `chunk`.
 fn pull_front<I: Source>(chunk: &mut [u8], room: usize, source: &mut I) -> Pull
     requires some { 0 < room }
     requires within { room ≤ length chunk.old }

@@ -4,4 +4,4 @@ pub mod DumpLemmas
 pub mod CutLemmas
 pub mod ServeLemmas
 pub mod NumberLemmas
-pub mod EditLemmas
+pub mod ResponseLemmas

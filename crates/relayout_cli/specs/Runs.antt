@@ -1,55 +1,66 @@
--- What a run answers and leaves.
-use Rattle.std.specs.Prelude.{◌⊎◌, ◌^◌, ◌+◌, length, Some, None, ◌≡◌, ℕ, ◌<◌, ◌≤◌, List, [], ◌∷◌, ◌++◌, take, true, Option}
-use Rattle.stream_model.specs.Streams.{FromTo, last_count, Rose, Grew, TakesCount}
+-- What serving a script answers and leaves.
+use Rattle.std.specs.Prelude.{◌≡◌, ◌≢◌, ◌⊎◌, ◌^◌, ◌+◌, ◌<◌, ◌≤◌, ℕ, length, Some, None, List, [], ◌∷◌, ◌++◌, take, Option}
+use Rattle.stream_model.specs.Streams.{SourceState, SinkState, FromTo, last_count, CountsFault, Grew, TakesCount}
 use Rattle.stream_model.specs.Lines.{lines, whole_lines}
-use Rattle.stream_model.specs.Ledger.{Event, Log, NoneTwice, events}
-use Rattle.page_model.specs.Pages.{State}
-use Rattle.request_model.specs.Requests.{Asked, asked}
-use Rattle.request_model.specs.States.{judged, asks_edit}
+use Rattle.stream_model.specs.Ledger.{Event, Log, events}
+use Rattle.stream_model.specs.Lists.{AreDistinct}
+use Rattle.stream_model.specs.declared.limits.TheConstants.{MAX_TAKEN}
+use Rattle.request_model.specs.Requests.{asked_of_line}
+use Rattle.request_model.specs.States.{most_logs}
 use Rattle.layout_model.specs.Setting.{Setting, default_advances}
-use Rattle.reply_model.specs.Replies.{Spells, Replies}
-use Rattle.port_core.specs.Reader.{max_taken}
+use Rattle.reply_model.specs.Replies.{Replies}
 use Rattle.relayout_cli.specs.declared.status.Status.{Status}
 use Rattle.relayout_cli.specs.declared.status.Status.TheVariants.{Done, BadWords, ReadFault, WriteFault, NoMemory, InputSpent}
 
--- characters as wide as the default says, and the first profile: there is no other yet
-abbrev pub the_setting : Setting
-the_setting = record { advances = default_advances; profile = 1 }
+-- characters as wide as the default says, under this profile
+abbrev pub setting_of : ℕ → Setting
+setting_of profile = record { advances = default_advances; profile = profile }
 
--- this is the reply to what a line asks for in a state, whatever was logged before
-abbrev pub AnswersTo : State → Asked → List ℕ → Type 0
-AnswersTo s asked reply = (last : Log) → Spells the_setting (record { state = s; last = last }) (judged s asked) reply
+-- what is seen of the outside at a moment
+pub record Outside : Type 0 where
+  pub source : SourceState
+  pub sink : SinkState
+  pub ledger : List Event
 
--- ---- whole runs
+-- a run: what is seen of the outside before it and after it
+pub record Run : Type 0 where
+  pub before : Outside
+  pub after : Outside
 
--- all lines of the bytes that were left were answered, in their order, and no byte is left: what was appended is the replies to them, and the ledger has their logs
-abbrev pub Served : Option (List ℕ) → Option (List ℕ) → Option (List ℕ) → Option (List ℕ) → List Event → List Event → Type 0
-Served left left' held held' es es' =
-    FromTo left left' (λ all rest. (rest ≡ []) × FromTo held held' (λ old new.
-    (logs : List Log) × (text : List ℕ) × Replies the_setting (lines all) logs text × (new ≡ old ++ text) × (es' ≡ es ++ events logs)))
+-- ---- what is answered
 
--- the lines that ended with a newline in the bytes taken were answered, in their order: what was appended is the replies to them, and the ledger has their logs
-abbrev pub ServedWhole : Option (List ℕ) → Option (List ℕ) → Option (List ℕ) → Option (List ℕ) → List Event → List Event → Type 0
-ServedWhole left left' held held' es es' =
-    FromTo left left' (λ all rest. FromTo held held' (λ old new.
-    (taken : List ℕ) × (logs : List Log) × (text : List ℕ) × (all ≡ taken ++ rest) × Replies the_setting (whole_lines taken) logs text × (new ≡ old ++ text) × (es' ≡ es ++ events logs)))
+-- what was appended to the sink is the replies to these lines, and the ledger has their logs
+pub record AnswersLines (setting : Setting) (run : Run) (lines : List (List ℕ)) (old new : List ℕ) : Type 0 where
+  pub logs : List Log
+  pub text : List ℕ
+  pub replies : Replies setting lines logs text
+  pub appended : new ≡ old ++ text
+  pub logged : run.after.ledger ≡ run.before.ledger ++ events logs
+
+-- all lines of the bytes that were left were answered, in their order, and no byte is left
+abbrev pub Served : Setting → Run → Type 0
+Served setting run =
+    FromTo run.before.source.left run.after.source.left (λ all rest.
+    (rest ≡ []) × FromTo run.before.sink.held run.after.sink.held (AnswersLines setting run (lines all)))
+
+-- the lines that ended with a newline in the bytes taken were answered, in their order
+abbrev pub ServedWhole : Setting → Run → Type 0
+ServedWhole setting run =
+    FromTo run.before.source.left run.after.source.left (λ all rest.
+    FromTo run.before.sink.held run.after.sink.held (λ old new.
+    (taken : List ℕ) × (all ≡ taken ++ rest) × AnswersLines setting run (whole_lines taken) old new))
 
 -- a run whose source failed, or whose input is spent, answered every whole line that it took
-abbrev pub BrokenOff : Status → Option (List ℕ) → Option (List ℕ) → Option (List ℕ) → Option (List ℕ) → List Event → List Event → Type 0
-BrokenOff Done left left' held held' es es' = Unit {0}
-BrokenOff BadWords left left' held held' es es' = Unit {0}
-BrokenOff ReadFault left left' held held' es es' = ServedWhole left left' held held' es es'
-BrokenOff WriteFault left left' held held' es es' = Unit {0}
-BrokenOff NoMemory left left' held held' es es' = Unit {0}
-BrokenOff InputSpent left left' held held' es es' = ServedWhole left left' held held' es es'
+abbrev pub BreaksOff : Setting → Status → Run → Type 0
+BreaksOff setting Done run = Unit {0}
+BreaksOff setting BadWords run = Unit {0}
+BreaksOff setting ReadFault run = ServedWhole setting run
+BreaksOff setting WriteFault run = Unit {0}
+BreaksOff setting NoMemory run = Unit {0}
+BreaksOff setting InputSpent run = ServedWhole setting run
 
--- a fact of what a stream tells, if it tells
-abbrev pub OnTold : Option (List ℕ) → (List ℕ → Type 0) → Type 0
-OnTold None P = Unit {0}
-OnTold (Some bytes) P = P bytes
-
--- the sink failed at the reply to the last of these lines: the replies to those before it are whole, and a prefix of that one stands behind them
-pub record IsCutShort (first : List (List ℕ)) (text bytes : List ℕ) : Type 0 where
+-- the sink failed at the reply to the last of these lines: the replies to those before it are whole, and a prefix of that one stands after them
+pub record IsCutShort (setting : Setting) (first : List (List ℕ)) (text bytes : List ℕ) : Type 0 where
   pub answered : List (List ℕ)
   pub last : List ℕ
   pub logs : List Log
@@ -57,95 +68,133 @@ pub record IsCutShort (first : List (List ℕ)) (text bytes : List ℕ) : Type 0
   pub reply : List ℕ
   pub part : ℕ
   pub lines_are : first ≡ answered ++ last ∷ []
-  pub replies : Replies the_setting answered logs before
+  pub replies : Replies setting answered logs before
   pub text_is : text ≡ before ++ reply
   pub within : part ≤ length reply
   pub written : bytes ≡ before ++ take part reply
 
 -- what was written of the text of the replies to these lines, by how a run ended: all of it, unless the sink failed
-abbrev pub IsWritten : Status → List (List ℕ) → List ℕ → List ℕ → Type 0
-IsWritten Done first text bytes = bytes ≡ text
-IsWritten BadWords first text bytes = ⊥
-IsWritten ReadFault first text bytes = bytes ≡ text
-IsWritten WriteFault first text bytes = IsCutShort first text bytes
-IsWritten NoMemory first text bytes = bytes ≡ text
-IsWritten InputSpent first text bytes = bytes ≡ text
+abbrev pub IsWritten : Setting → Status → List (List ℕ) → List ℕ → List ℕ → Type 0
+IsWritten setting Done first text bytes = bytes ≡ text
+IsWritten setting BadWords first text bytes = ⊥
+IsWritten setting ReadFault first text bytes = bytes ≡ text
+IsWritten setting WriteFault first text bytes = IsCutShort setting first text bytes
+IsWritten setting NoMemory first text bytes = bytes ≡ text
+IsWritten setting InputSpent first text bytes = bytes ≡ text
 
--- the first of these lines asks for an edit
-abbrev pub BeginsWithEdit : List (List ℕ) → Type 0
-BeginsWithEdit [] = ⊥
-BeginsWithEdit (line ∷ others) = asks_edit (asked line) ≡ true
+-- the most logs that the first of these lines begins
+abbrev pub most_of_first : List (List ℕ) → ℕ
+most_of_first [] = 0
+most_of_first (line ∷ others) = most_logs (asked_of_line line)
 
--- the ledger has these logs; where memory ran out at an edit, the first of the other lines, its log may have begun
-abbrev pub IsLogged : Status → List (List ℕ) → List Log → List Event → List Event → Type 0
-IsLogged Done others logs es es' = es' ≡ es ++ events logs
-IsLogged BadWords others logs es es' = ⊥
-IsLogged ReadFault others logs es es' = es' ≡ es ++ events logs
-IsLogged WriteFault others logs es es' = es' ≡ es ++ events logs
-IsLogged NoMemory others logs es es' = (es' ≡ es ++ events logs) ⊎ (BeginsWithEdit others × (es' ≡ es ++ events (logs ++ [] ∷ [])))
-IsLogged InputSpent others logs es es' = es' ≡ es ++ events logs
+-- the logs that the first of these lines has begun, where memory ran out at it: the last of them may be cut short
+abbrev pub HasBegun : List (List ℕ) → List Log → Type 0
+HasBegun others begun = length begun ≤ most_of_first others
 
--- some first lines of all were answered, this was written of the replies to them, and the ledger has their logs
-pub record BeginsReplies (status : Status) (all : List ℕ) (es es' : List Event) (old new : List ℕ) : Type 0 where
+-- the logs beside those of the lines that were answered, by how a run ended
+abbrev pub HasBegunBy : Status → List (List ℕ) → List Log → Type 0
+HasBegunBy Done others begun = begun ≡ []
+HasBegunBy BadWords others begun = ⊥
+HasBegunBy ReadFault others begun = begun ≡ []
+HasBegunBy WriteFault others begun = begun ≡ []
+HasBegunBy NoMemory others begun = HasBegun others begun
+HasBegunBy InputSpent others begun = begun ≡ []
+
+-- some first lines of all were answered, which are among those of the bytes taken: this was written of the replies to them, and the ledger has their logs
+pub record BeginsReplies (setting : Setting) (status : Status) (run : Run) (all rest old new : List ℕ) : Type 0 where
   pub first : List (List ℕ)
   pub others : List (List ℕ)
+  pub taken : List ℕ
+  pub later : List (List ℕ)
   pub logs : List Log
+  pub begun : List Log
   pub text : List ℕ
   pub written : List ℕ
   pub cut : lines all ≡ first ++ others
-  pub replies : Replies the_setting first logs text
+  pub parted : all ≡ taken ++ rest
+  pub within : lines taken ≡ first ++ later
+  pub replies : Replies setting first logs text
   pub appended : new ≡ old ++ written
-  pub part : IsWritten status first text written
-  pub logged : IsLogged status others logs es es'
+  pub part : IsWritten setting status first text written
+  pub has_begun : HasBegunBy status others begun
+  pub logged : run.after.ledger ≡ run.before.ledger ++ events (logs ++ begun)
 
 -- however a run over a script ends, what it wrote begins the replies to it
-abbrev pub Wrote : Status → Option (List ℕ) → Option (List ℕ) → Option (List ℕ) → List Event → List Event → Type 0
-Wrote status left held held' es es' = OnTold left (λ all. FromTo held held' (BeginsReplies status all es es'))
+abbrev pub Wrote : Setting → Status → Run → Type 0
+Wrote setting status run =
+    FromTo run.before.source.left run.after.source.left (λ all rest.
+    FromTo run.before.sink.held run.after.sink.held (BeginsReplies setting status run all rest))
 
 -- no pair stands twice in one of these logs
 abbrev pub AllOnce : List Log → Type 0
 AllOnce [] = Unit {0}
-AllOnce (log ∷ logs) = NoneTwice log × AllOnce logs
+AllOnce (log ∷ logs) = AreDistinct log × AllOnce logs
 
--- the ledger got a mark for each of some edits, and after it what that edit logged, no pair twice
+-- the ledger got some logs, each with its mark, and no pair stands twice in one of them
 abbrev pub LogsOnce : List Event → List Event → Type 0
-LogsOnce es es' = (logs : List Log) × AllOnce logs × (es' ≡ es ++ events logs)
+LogsOnce old new = (logs : List Log) × AllOnce logs × (new ≡ old ++ events logs)
 
 -- ---- causes, by how a run ended
 
--- the counts of faults of the source and of the sink before and after: a run ends with a fault only where the count of that side rose, and the other's did not
-abbrev pub FaultsBy : Status → ℕ → ℕ → ℕ → ℕ → Type 0
-FaultsBy Done source source' sink sink' = (source' ≡ source) × (sink' ≡ sink)
-FaultsBy BadWords source source' sink sink' = (source' ≡ source) × (sink' ≡ sink)
-FaultsBy ReadFault source source' sink sink' = (source ≤ source') × Rose source source' × (sink' ≡ sink)
-FaultsBy WriteFault source source' sink sink' = (source' ≡ source) × (sink ≤ sink') × Rose sink sink'
-FaultsBy NoMemory source source' sink sink' = (source' ≡ source) × (sink' ≡ sink)
-FaultsBy InputSpent source source' sink sink' = (source' ≡ source) × (sink' ≡ sink)
+-- a run ends with a fault only where the count of that side rose, and the other's did not
+abbrev pub FaultsBy : Status → Run → Type 0
+FaultsBy Done run = (run.after.source.faults ≡ run.before.source.faults) × (run.after.sink.faults ≡ run.before.sink.faults)
+FaultsBy BadWords run = (run.after.source.faults ≡ run.before.source.faults) × (run.after.sink.faults ≡ run.before.sink.faults)
+FaultsBy ReadFault run = CountsFault run.before.source.faults run.after.source.faults × (run.after.sink.faults ≡ run.before.sink.faults)
+FaultsBy WriteFault run = (run.after.source.faults ≡ run.before.source.faults) × CountsFault run.before.sink.faults run.after.sink.faults
+FaultsBy NoMemory run = (run.after.source.faults ≡ run.before.source.faults) × (run.after.sink.faults ≡ run.before.sink.faults)
+FaultsBy InputSpent run = (run.after.source.faults ≡ run.before.source.faults) × (run.after.sink.faults ≡ run.before.sink.faults)
 
 -- how many bytes a run takes: all that it may exactly where the input was spent, unless the sink or memory failed then
 abbrev pub CountBy : Status → ℕ → Type 0
-CountBy Done n = n < max_taken
+CountBy Done n = n < MAX_TAKEN
 CountBy BadWords n = n ≡ 0
-CountBy ReadFault n = n < max_taken
-CountBy WriteFault n = n ≤ max_taken
-CountBy NoMemory n = n ≤ max_taken
-CountBy InputSpent n = n ≡ max_taken
+CountBy ReadFault n = n < MAX_TAKEN
+CountBy WriteFault n = n ≤ MAX_TAKEN
+CountBy NoMemory n = n ≤ MAX_TAKEN
+CountBy InputSpent n = n ≡ MAX_TAKEN
 
--- a run took so many bytes, by the source's own number and by the bytes that it tells
-abbrev pub TakenBy : Status → Option (List ℕ) → Option (List ℕ) → ℕ → ℕ → Type 0
-TakenBy status left left' taken taken' = (n : ℕ) × CountBy status n × Grew taken n taken' × TakesCount left left' n
+-- a run took n bytes, by the source's own number and by the bytes that it tells
+abbrev pub TakenBy : Status → Run → Type 0
+TakenBy status run =
+    (n : ℕ) × CountBy status n × Grew run.before.source.taken n run.after.source.taken
+    × TakesCount run.before.source.left run.after.source.left n
 
 -- ---- completeness
 
 -- neither the source nor the sink failed: their counts are as before, and could have risen
-abbrev pub IsUntroubled : ℕ → ℕ → ℕ → ℕ → Type 0
-IsUntroubled source source' sink sink' = (source' ≡ source) × (source < last_count) × (sink' ≡ sink) × (sink < last_count)
+pub record IsUntroubled (run : Run) : Type 0 where
+  pub source : run.after.source.faults ≡ run.before.source.faults
+  pub source_counts : run.before.source.faults < last_count
+  pub sink : run.after.sink.faults ≡ run.before.sink.faults
+  pub sink_counts : run.before.sink.faults < last_count
 
--- the source has fewer bytes than a run takes; one that does not tell them gave fewer in this run
+-- a source has fewer bytes than a run takes; one that does not tell them gives fewer, by its own number
 abbrev pub HasFewer : Option (List ℕ) → ℕ → ℕ → Type 0
-HasFewer None taken taken' = (taken < 2 ^ 63) × (taken' < taken + max_taken)
-HasFewer (Some bytes) taken taken' = length bytes < max_taken
+HasFewer None taken taken' = (taken < 2 ^ 63) × (taken' < taken + MAX_TAKEN)
+HasFewer (Some bytes) taken taken' = length bytes < MAX_TAKEN
 
 -- the run came to its end, or memory did
 abbrev pub IsDoneButForMemory : Status → Type 0
 IsDoneButForMemory status = (status ≡ Done) ⊎ (status ≡ NoMemory)
+
+-- ---- the whole statement
+
+-- What serving a script answers and leaves, by how it ended.
+pub record Serves (setting : Setting) (status : Status) (run : Run) : Type 0 where
+  -- after `Done` every line was answered, and nothing else was written or logged
+  pub done : status ≡ Done → Served setting run
+  -- after a fault of the source, or where the input is spent, every line that ended with a newline in the bytes taken was
+  pub broken_off : BreaksOff setting status run
+  -- what was written begins the replies to the lines of the bytes taken, in whole replies unless the sink failed
+  pub wrote : Wrote setting status run
+  -- no pair stands twice in a log
+  pub once : LogsOnce run.before.ledger run.after.ledger
+  -- each fault has its cause
+  pub faults : FaultsBy status run
+  -- the bytes were counted
+  pub taken : TakenBy status run
+  -- without faults, and with fewer bytes than a run takes, a run comes to its end, or memory does
+  pub complete : IsUntroubled run → HasFewer run.before.source.left run.before.source.taken run.after.source.taken → IsDoneButForMemory status
+  -- words are none of its matter
+  pub words : status ≢ BadWords

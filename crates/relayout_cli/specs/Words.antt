@@ -1,8 +1,6 @@
 -- What the words of the command line make a run do.
-use Rattle.std.specs.Prelude.{◌≡◌, ◌≢◌, ℕ, ◌≤◌, List, codes, Option}
-use Rattle.stream_model.specs.Streams.{Rose, Appends, AppendsPart}
-use Rattle.stream_model.specs.Ledger.{Event}
-use Rattle.relayout_cli.specs.Runs.{Served}
+use Rattle.std.specs.Prelude.{◌≡◌, ℕ, List, length, codes}
+use Rattle.stream_model.specs.Streams.{SinkState, CountsFault, Appends, AppendsPart}
 use Rattle.relayout_cli.specs.declared.status.Status.{Status}
 use Rattle.relayout_cli.specs.declared.status.Status.TheVariants.{Done, BadWords, ReadFault, WriteFault, NoMemory, InputSpent}
 
@@ -11,23 +9,14 @@ unfoldable pub usage : List ℕ
 usage = codes "usage: relayout [--gen N] [--profile 1|2]\n"
 
 -- the words are the program's name alone: its options are not built yet
-abbrev pub AreWords : ℕ → Type 0
-AreWords count = count ≡ 1
+abbrev pub AreWords : List (List ℕ) → Type 0
+AreWords words = length words ≡ 1
 
--- what a run over these words did, by how it ended: with the words of the program it served the script, with others it told the usage
-abbrev pub Ran : Status → ℕ → Option (List ℕ) → Option (List ℕ) → Option (List ℕ) → Option (List ℕ) → List Event → List Event → Type 0
-Ran Done words left left' held held' es es' = AreWords words × Served left left' held held' es es'
-Ran BadWords words left left' held held' es es' = (words ≢ 1) × Appends held held' usage
-Ran ReadFault words left left' held held' es es' = AreWords words
-Ran WriteFault words left left' held held' es es' = words ≢ 1 → AppendsPart held held' usage
-Ran NoMemory words left left' held held' es es' = words ≢ 1 → held' ≡ held
-Ran InputSpent words left left' held held' es es' = AreWords words
-
--- what telling the usage did, by how it ended
-abbrev pub TellsUsage : Status → Option (List ℕ) → Option (List ℕ) → ℕ → ℕ → Type 0
-TellsUsage BadWords held held' faults faults' = Appends held held' usage × (faults' ≡ faults)
-TellsUsage WriteFault held held' faults faults' = AppendsPart held held' usage × (faults ≤ faults') × Rose faults faults'
-TellsUsage Done held held' faults faults' = ⊥
-TellsUsage ReadFault held held' faults faults' = ⊥
-TellsUsage NoMemory held held' faults faults' = ⊥
-TellsUsage InputSpent held held' faults faults' = ⊥
+-- what telling the usage does to the sink, by how it ended
+abbrev pub TellsUsage : Status → SinkState → SinkState → Type 0
+TellsUsage Done old new = ⊥
+TellsUsage BadWords old new = Appends old.held new.held usage × (new.faults ≡ old.faults)
+TellsUsage ReadFault old new = ⊥
+TellsUsage WriteFault old new = AppendsPart old.held new.held usage × CountsFault old.faults new.faults
+TellsUsage NoMemory old new = new ≡ old
+TellsUsage InputSpent old new = ⊥

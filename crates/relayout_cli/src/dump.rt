@@ -1,27 +1,30 @@
+//! Dumps.
 ghost use Rattle.std.specs.Prelude.{◌≡◌, ◌≤◌, ◌++◌, pos, codes, [], Some, OnOk, string_bytes};
 ghost use Rattle.std.specs.Fmt.{decimal, signed_decimal};
+ghost use Rattle.layout_model.specs.Setting.{Setting};
 ghost use Rattle.reply_model.specs.Spelling.{field};
 ghost use Rattle.reply_model.specs.DumpText.{box_line, box_lines, all_box_lines};
-ghost use Rattle.reply_model.specs.Replies.{IsDump};
 ghost use Rattle.relayout_cli.specs.Pages.{page_view};
-ghost use Rattle.relayout_cli.specs.Runs.{the_setting};
-ghost use Rattle.relayout_cli.specs.Walk.{node_at, nodes_at, Reaches, AllReach};
-ghost use Rattle.relayout_cli.specs.Flat.{frame_view, all_flat};
+ghost use Rattle.relayout_cli.specs.inner.Dumps.{IsDumpOf};
+ghost use Rattle.relayout_cli.specs.inner.Walk.{node_at, nodes_at, Reaches, AllReach};
+ghost use Rattle.relayout_cli.specs.inner.Flat.{all_flat};
+ghost use Rattle.relayout_cli.specs.inner.Frames.{frame_view};
 
-use crate::boxes::Frame;
-use crate::page::{Page, width_in_units};
+use crate::boxes::{Frame, units_of};
+use crate::page::Page;
 use crate::replies::{push_field, push_ok};
-use dom_arena::{Children, Doc, MAX_DEPTH};
+use dom_arena::{Children, Doc};
 use itoa::Buffer;
+use page_model::MAX_DEPTH;
 use port_core::{NoMemory, NodeId};
 use units64::Units;
 
 /// Appends the dump of a page.
 pub fn push_dump(page: &Page, reply: &mut String) -> Result<(), NoMemory>
-    requires { string_bytes reply.old ≡ [] }
-    ensures { OnOk result (IsDump the_setting (Some (page_view page.now)) (string_bytes reply.new)) }
+    requires empty { string_bytes reply.old ≡ [] }
+    ensures dump { OnOk result ((setting : Setting) → IsDumpOf setting (page_view page.now) (string_bytes reply.new)) }
 {
-    let width = width_in_units(page.viewport);
+    let width = units_of(page.viewport.width);
     push_boxes(
         reply,
         &page.document,
@@ -32,7 +35,7 @@ pub fn push_dump(page: &Page, reply: &mut String) -> Result<(), NoMemory>
     push_ok(reply)
 }
 
-/// Appends the lines of an element's box and of the boxes below it, in document order. Each block fills the width that it has, and stands at the corner of the block around it. No box stands more than `levels` deep below: the recursion ends by that, and nothing is cut.
+/// Appends the lines of an element's box and of the boxes below it, in document order. Each block fills the width that it has, and stands at the corner of the block around it. No box stands more than `levels` deep below: the recursion ends by that, and nothing is left out.
 #[cycle(walk)]
 fn push_boxes(
     reply: &mut String,

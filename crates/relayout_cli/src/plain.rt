@@ -1,15 +1,31 @@
-ghost use Rattle.std.specs.Prelude.{◌≡◌, map, codes};
+//! Which forms of requests are built.
+ghost use Rattle.std.specs.Prelude.{◌≡◌, map, codes, is_none};
 ghost use Rattle.std.specs.Str.{bytes_eq};
 ghost use Rattle.page_model.specs.Trees.{trees_of};
-ghost use Rattle.request_model.specs.States.{is_plain, are_plain, is_empty};
+ghost use Rattle.page_model.specs.Refusals.{first_of};
+ghost use Rattle.request_model.specs.States.{form_causes, is_plain, are_plain, is_empty};
 ghost use Rattle.dom_arena.specs.Shape.{shape};
+ghost use Rattle.relayout_requests.specs.Views.{request_view};
 
 use dom_arena::{Attrs, Tree};
 use port_core::Text;
+use relayout_requests::{Edit, Request};
 
-/// Whether a tree is of `div` elements alone, without an attribute.
+/// Returns whether the form of a request is built: a load has no style sheets, and each tree is of
+/// `div` elements alone, without attributes.
+pub fn is_built(request: &Request) -> bool
+    ensures { result ≡ is_none (first_of (form_causes (request_view request.now))) }
+{
+    match request {
+        Request::Edit(Edit::Load { doc, sheets, .. }) => sheets.is_none() && is_plain_tree(doc),
+        Request::Edit(Edit::Insert { tree, .. }) => is_plain_tree(tree),
+        Request::Edit(Edit::Remove { .. }) | Request::Query(_) => true,
+    }
+}
+
+/// Returns whether a tree is of `div` elements alone, without attributes.
 #[cycle(plain)]
-pub fn is_plain_tree(tree: &Tree) -> bool
+fn is_plain_tree(tree: &Tree) -> bool
     ensures { result ≡ is_plain (shape tree.now) }
 {
     match tree {

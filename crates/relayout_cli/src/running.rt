@@ -1,13 +1,16 @@
-ghost use Rattle.std.specs.Prelude.{◌≡◌, ◌≢◌, length};
-ghost use Rattle.relayout_cli.specs.Runs.{BrokenOff, Wrote, LogsOnce, FaultsBy, TakenBy, IsUntroubled, HasFewer, IsDoneButForMemory};
-ghost use Rattle.relayout_cli.specs.Words.{Ran, TellsUsage};
+//! Running the program.
+ghost use Rattle.std.specs.Prelude.{◌≡◌, map, string_bytes};
+ghost use Rattle.relayout_cli.specs.Runs.{setting_of, Serves};
+ghost use Rattle.relayout_cli.specs.Words.{AreWords, TellsUsage};
 
 use crate::serving::serve;
 use crate::status::Status;
 use port_core::{Push, Sink, Source, Steps};
 use std::alloc::Global;
 
-/// Runs the program. Where the words of the command line are its name alone it serves the script that the source gives; with any other words it writes how it is used, and touches neither source nor ledger.
+/// Runs the program. Where the words of the command line are its name alone it serves the script
+/// that the source gives; with any other words it writes how it is used, and touches neither source
+/// nor ledger.
 pub fn run<I: Source, O: Sink, L: Drop>(
     alloc: Global,
     words: &[String],
@@ -15,20 +18,16 @@ pub fn run<I: Source, O: Sink, L: Drop>(
     sink: &mut O,
     steps: &mut Steps<L>,
 ) -> Status
-    // What is answered.
-    ensures ran { Ran result (length words.now) (I.left source.old) (I.left source.new) (O.held sink.old) (O.held sink.new) steps.old steps.new }
-    ensures broken_off { BrokenOff result (I.left source.old) (I.left source.new) (O.held sink.old) (O.held sink.new) steps.old steps.new }
-    ensures wrote { length words.now ≡ 1 → Wrote result (I.left source.old) (O.held sink.old) (O.held sink.new) steps.old steps.new }
-    ensures complete { length words.now ≡ 1 → IsUntroubled (I.faults source.old) (I.faults source.new) (O.faults sink.old) (O.faults sink.new) → HasFewer (I.left source.old) (I.taken source.old) (I.taken source.new) → IsDoneButForMemory result }
-    ensures once { LogsOnce steps.old steps.new }
-
-    // When each fault comes.
-    ensures faults { FaultsBy result (I.faults source.old) (I.faults source.new) (O.faults sink.old) (O.faults sink.new) }
-    ensures taken { TakenBy result (I.left source.old) (I.left source.new) (I.taken source.old) (I.taken source.new) }
-
-    // What stays where the words are others.
-    ensures source_stays { length words.now ≢ 1 → source.new ≡ source.old }
-    ensures steps_stay { length words.now ≢ 1 → steps.new ≡ steps.old }
+    // With the words of the program: what is answered, written, logged and taken, and each cause.
+    ensures serves { AreWords (map (λ w. string_bytes w) words.now) → Serves (setting_of 1) result (record {
+      before = record { source = I.seen source.old; sink = O.seen sink.old; ledger = steps.old };
+      after = record { source = I.seen source.new; sink = O.seen sink.new; ledger = steps.new };
+    }) }
+    // With others: the usage, and what stays.
+    ensures usage { (AreWords (map (λ w. string_bytes w) words.now) → ⊥)
+        → TellsUsage result (O.seen sink.old) (O.seen sink.new) }
+    ensures source_stays { (AreWords (map (λ w. string_bytes w) words.now) → ⊥) → source.new ≡ source.old }
+    ensures steps_stay { (AreWords (map (λ w. string_bytes w) words.now) → ⊥) → steps.new ≡ steps.old }
 {
     if words.len() != 1 {
         return tell_usage(sink);
@@ -39,7 +38,7 @@ pub fn run<I: Source, O: Sink, L: Drop>(
 /// Writes how the program is used.
 #[tactic(auto, unfolding(crate::specs::Words::usage))]
 fn tell_usage<O: Sink>(sink: &mut O) -> Status
-    ensures { TellsUsage result (O.held sink.old) (O.held sink.new) (O.faults sink.old) (O.faults sink.new) }
+    ensures { TellsUsage result (O.seen sink.old) (O.seen sink.new) }
 {
     match sink.push(b"usage: relayout [--gen N] [--profile 1|2]\n") {
         Push::Done => Status::BadWords,

@@ -1,18 +1,19 @@
-ghost use Rattle.std.specs.Prelude.{◌≡◌, ◌≢◌, ◌++◌};
+//! Serving scripts.
+ghost use Rattle.std.specs.Prelude.{◌≡◌, ◌++◌};
 ghost use Rattle.stream_model.specs.Ledger.{events};
-ghost use Rattle.request_model.specs.States.{asks_edit};
-ghost use Rattle.relayout_requests.specs.Views.{asked_view};
-ghost use Rattle.relayout_cli.specs.Pages.{state_view};
-ghost use Rattle.relayout_cli.specs.Runs.{Served, BrokenOff, Wrote, LogsOnce, FaultsBy, TakenBy, IsUntroubled, HasFewer, IsDoneButForMemory};
+ghost use Rattle.request_model.specs.States.{most_logs};
 ghost use Rattle.port_core.specs.Reader.{HasNotFailed};
-ghost use Rattle.relayout_cli.specs.Coming.{Comes, ReadsOn, IsAtEnd};
-ghost use Rattle.relayout_cli.specs.Turns.{Turns, Tells, own_logs};
+ghost use Rattle.relayout_requests.specs.Views.{asked_view};
+ghost use Rattle.relayout_cli.specs.Runs.{setting_of, Serves};
+ghost use Rattle.relayout_cli.specs.inner.Coming.{Comes, ReadsOn, IsAtEnd};
+ghost use Rattle.relayout_cli.specs.inner.Turns.{Turns, Tells, empty_logs};
 
 use crate::page::Page;
 use crate::respond::respond;
 use crate::status::Status;
+use page_model::Cause;
 use port_core::{Line, LineReader, NoMemory, Push, Sink, Source, Steps};
-use relayout_requests::{Asked, Refusal, Request, ask};
+use relayout_requests::{Asked, Request, ask};
 use std::alloc::Global;
 
 /// What comes next of a script.
@@ -41,7 +42,8 @@ pub enum Turn {
     NoMemory,
 }
 
-/// Serves a script: answers each line of the source in its order, until the source ends or something fails.
+/// Serves a script: answers each line of the source in its order, until the source ends or
+/// something fails.
 pub fn serve<I: Source, O: Sink, L: Drop>(
     alloc: Global,
     profile: u8,
@@ -49,39 +51,14 @@ pub fn serve<I: Source, O: Sink, L: Drop>(
     sink: &mut O,
     steps: &mut Steps<L>,
 ) -> Status
-    requires { profile ≡ 1 }
-    // What is answered.
-    ensures done { result ≡ Status.Done → Served (I.left source.old) (I.left source.new) (O.held sink.old) (O.held sink.new) steps.old steps.new }
-    ensures broken_off { BrokenOff result (I.left source.old) (I.left source.new) (O.held sink.old) (O.held sink.new) steps.old steps.new }
-    ensures wrote { Wrote result (I.left source.old) (O.held sink.old) (O.held sink.new) steps.old steps.new }
-    ensures complete { IsUntroubled (I.faults source.old) (I.faults source.new) (O.faults sink.old) (O.faults sink.new) → HasFewer (I.left source.old) (I.taken source.old) (I.taken source.new) → IsDoneButForMemory result }
-    ensures once { LogsOnce steps.old steps.new }
-
-    // When each fault comes.
-    ensures faults { FaultsBy result (I.faults source.old) (I.faults source.new) (O.faults sink.old) (O.faults sink.new) }
-    ensures taken { TakenBy result (I.left source.old) (I.left source.new) (I.taken source.old) (I.taken source.new) }
-    ensures words { result ≢ Status.BadWords }
+    requires profile { profile ≡ 1 }
+    ensures serves { Serves (setting_of profile) result (record {
+      before = record { source = I.seen source.old; sink = O.seen sink.old; ledger = steps.old };
+      after = record { source = I.seen source.new; sink = O.seen sink.new; ledger = steps.new };
+    }) }
 {
-    // There is no other profile yet.
+    // Nothing is laid out by the profile yet.
     let _ = profile;
-    serve_lines(alloc, source, sink, steps)
-}
-
-/// Answers each line of the source in its order.
-fn serve_lines<I: Source, O: Sink, L: Drop>(
-    alloc: Global,
-    source: &mut I,
-    sink: &mut O,
-    steps: &mut Steps<L>,
-) -> Status
-    ensures done { result ≡ Status.Done → Served (I.left source.old) (I.left source.new) (O.held sink.old) (O.held sink.new) steps.old steps.new }
-    ensures broken_off { BrokenOff result (I.left source.old) (I.left source.new) (O.held sink.old) (O.held sink.new) steps.old steps.new }
-    ensures wrote { Wrote result (I.left source.old) (O.held sink.old) (O.held sink.new) steps.old steps.new }
-    ensures once { LogsOnce steps.old steps.new }
-    ensures faults { FaultsBy result (I.faults source.old) (I.faults source.new) (O.faults sink.old) (O.faults sink.new) }
-    ensures taken { TakenBy result (I.left source.old) (I.left source.new) (I.taken source.old) (I.taken source.new) }
-    ensures words { result ≢ Status.BadWords }
-{
     let mut reader = match LineReader::new(alloc) {
         Ok(reader) => reader,
         Err(NoMemory) => return Status::NoMemory,
@@ -106,16 +83,16 @@ fn serve_lines<I: Source, O: Sink, L: Drop>(
 /// Reads the next line, and what it asks for.
 fn read<I: Source>(alloc: Global, reader: &mut LineReader, source: &mut I) -> Coming
     requires going { HasNotFailed reader.old }
-    requires ended { IsAtEnd reader.old (I.left source.old) }
-    ensures comes { Comes result reader.old reader.new (I.left source.old) (I.left source.new) (I.faults source.old) (I.faults source.new) }
-    ensures reads_on { ReadsOn reader.old reader.new (I.left source.old) (I.left source.new) (I.taken source.old) (I.taken source.new) }
+    requires ended { IsAtEnd reader.old (I.seen source.old) }
+    ensures comes { Comes result reader.old reader.new (I.seen source.old) (I.seen source.new) }
+    ensures reads_on { ReadsOn reader.old reader.new (I.seen source.old) (I.seen source.new) }
 {
     match reader.next(source) {
         Line::Whole => match ask(alloc, reader.line()) {
             Ok(asked) => Coming::Asks(asked),
             Err(NoMemory) => Coming::NoMemory,
         },
-        Line::TooLong => Coming::Asks(Asked::Broken(Refusal::LineTooLong)),
+        Line::TooLong => Coming::Asks(Asked::Broken(Cause::LineTooLong)),
         Line::End => Coming::End,
         Line::Failed => Coming::Failed,
         Line::Spent => Coming::Spent,
@@ -131,9 +108,11 @@ fn answer<O: Sink, L: Drop>(
     sink: &mut O,
     steps: &mut Steps<L>,
 ) -> Turn
-    ensures { Turns result (asked_view asked) (state_view state.old) (state_view state.new) (O.held sink.old) (O.held sink.new) (O.faults sink.old) (O.faults sink.new) steps.old steps.new }
+    ensures turns { Turns result (asked_view asked) state.old state.new
+        (record { sink = O.seen sink.old; ledger = steps.old })
+        (record { sink = O.seen sink.new; ledger = steps.new }) }
 {
-    note(&asked, steps);
+    begin_log(&asked, steps);
     reply.clear();
     match respond(alloc, state, asked, reply) {
         Ok(()) => tell(reply.as_str(), sink),
@@ -142,8 +121,8 @@ fn answer<O: Sink, L: Drop>(
 }
 
 /// Begins a new log where a line asks for an edit.
-fn note<L: Drop>(asked: &Asked, steps: &mut Steps<L>)
-    ensures { steps.new ≡ steps.old ++ events (own_logs (asks_edit (asked_view asked.now))) }
+fn begin_log<L: Drop>(asked: &Asked, steps: &mut Steps<L>)
+    ensures { steps.new ≡ steps.old ++ events (empty_logs (most_logs (asked_view asked.now))) }
 {
     if let Asked::Request(Request::Edit(_)) = asked {
         steps.mark();
@@ -152,7 +131,7 @@ fn note<L: Drop>(asked: &Asked, steps: &mut Steps<L>)
 
 /// Writes a reply, if there is one.
 fn tell<O: Sink>(reply: &str, sink: &mut O) -> Turn
-    ensures { Tells result reply.now (O.held sink.old) (O.held sink.new) (O.faults sink.old) (O.faults sink.new) }
+    ensures { Tells result reply.now (O.seen sink.old) (O.seen sink.new) }
 {
     if reply.is_empty() {
         return Turn::Answered;

@@ -4,18 +4,23 @@ use port_core::{MemSink, MemSource, NoMemory, Steps};
 use std::alloc::Global;
 use std::process::Abort;
 use std::test::Fail;
+use stream_model::Kind;
 
-const LOAD_ONE: &[u8] = b"{\"do\":\"load\",\"width\":800,\"height\":600,\"doc\":[\"div\"]}\n";
+/// A load of one `div`, and a dump of it.
+const ONE_BOX: &[u8] = br#"{"do":"load","width":800,"height":600,"doc":["div"]}
+{"do":"dump"}"#;
 
-const DUMP: &[u8] = b"{\"do\":\"dump\"}";
+/// The replies to it.
+const ONE_BOX_REPLIES: &[u8] = br#"ok 0 1
+box 0 div 0 0 51200 0 51200 0
+ok
+"#;
 
-const ONE_BOX: &[u8] = b"ok 0 1\nbox 0 div 0 0 51200 0 51200 0\nok\n";
-
-/// The words of a command line.
-fn words(alloc: Global, extra: bool) -> Result<Vec<String>, NoMemory> {
+/// Returns the words of a command line: the program's name, and `others` more.
+fn words(alloc: Global, others: usize) -> Result<Vec<String>, NoMemory> {
     let mut words = Vec::new(alloc);
     words.push(String::from_str(alloc, "relayout")?)?;
-    if extra {
+    for _ in 0..others {
         words.push(String::from_str(alloc, "--help")?)?;
     }
     Ok(words)
@@ -34,7 +39,7 @@ struct Case<'a> {
 
 /// Runs a script, and compares.
 fn expect(rt: &impl Abort, alloc: Global, case: &Case) -> Result<(), NoMemory> {
-    let words = words(alloc, false)?;
+    let words = words(alloc, 0)?;
     let piece = case.piece.max(1);
     let mut source = MemSource::new(alloc, case.script, piece, case.fail_at)?;
     let mut sink = MemSink::new(alloc, case.room)?;
@@ -45,7 +50,7 @@ fn expect(rt: &impl Abort, alloc: Global, case: &Case) -> Result<(), NoMemory> {
     Ok(())
 }
 
-/// A script that is served to its end.
+/// Serves a script to its end, and compares.
 fn expect_replies(
     rt: &impl Abort,
     alloc: Global,
@@ -63,42 +68,7 @@ fn expect_replies(
     expect(rt, alloc, &case)
 }
 
-/// The script of one box, with or without the last newline.
-fn one_box(alloc: Global, newline: bool) -> Result<Vec<u8>, NoMemory> {
-    let mut script = Vec::from_slice(alloc, LOAD_ONE)?;
-    script.extend_from_slice(DUMP)?;
-    if newline {
-        script.push(b'\n')?;
-    }
-    Ok(script)
-}
-
-/// The script of one box in pieces of this size.
-fn expect_one_box(rt: &impl Abort, alloc: Global, piece: usize) -> Result<(), NoMemory> {
-    for newline in [true, false] {
-        let script = one_box(alloc, newline)?;
-        let case = Case {
-            script: script.as_slice(),
-            piece,
-            fail_at: None,
-            room: 1000,
-            status: Status::Done,
-            replies: ONE_BOX,
-        };
-        expect(rt, alloc, &case)?;
-    }
-    Ok(())
-}
-
-#[test]
-fn pieces_make_no_difference(rt: HostRuntime) -> Result<(), Fail> {
-    for piece in [1, 2, 3, 7, 1000] {
-        expect_one_box(&rt, rt.alloc(), piece)?;
-    }
-    Ok(())
-}
-
-/// The script of one box with this fault.
+/// Serves the script of one box with this fault, and compares.
 fn expect_fault(
     rt: &impl Abort,
     alloc: Global,
@@ -107,9 +77,8 @@ fn expect_fault(
     status: Status,
     replies: &[u8],
 ) -> Result<(), NoMemory> {
-    let script = one_box(alloc, true)?;
     let case = Case {
-        script: script.as_slice(),
+        script: ONE_BOX,
         piece: 9,
         fail_at,
         room,
@@ -120,9 +89,19 @@ fn expect_fault(
 }
 
 #[test]
-fn faults_end_a_run_with_their_status(rt: HostRuntime) -> Result<(), Fail> {
-    let inside = LOAD_ONE.len() as u64 + 5;
-    let last = LOAD_ONE.len() as u64 + DUMP.len() as u64 + 1;
+fn pieces_and_faults_end_a_run_with_their_status(rt: HostRuntime) -> Result<(), Fail> {
+    for piece in [1, 2, 3, 7, 1000] {
+        let case = Case {
+            script: ONE_BOX,
+            piece,
+            fail_at: None,
+            room: 1000,
+            status: Status::Done,
+            replies: ONE_BOX_REPLIES,
+        };
+        expect(&rt, rt.alloc(), &case)?;
+    }
+    let whole = Some(ONE_BOX.len() as u64);
     expect_fault(
         &rt,
         rt.alloc(),
@@ -134,291 +113,345 @@ fn faults_end_a_run_with_their_status(rt: HostRuntime) -> Result<(), Fail> {
     expect_fault(
         &rt,
         rt.alloc(),
-        Some(inside),
+        Some(60),
         1000,
         Status::ReadFault,
         b"ok 0 1\n",
     )?;
-    expect_fault(
-        &rt,
-        rt.alloc(),
-        Some(last),
-        1000,
-        Status::ReadFault,
-        ONE_BOX,
-    )?;
+    expect_fault(&rt, rt.alloc(), whole, 1000, Status::ReadFault, b"ok 0 1\n")?;
     Ok(())
 }
 
-#[test]
-fn whole_documents_are_dumped(rt: HostRuntime) -> Result<(), Fail> {
-    expect_replies(
-        &rt,
-        rt.alloc(),
-        b"{\"do\":\"load\",\"width\":10,\"height\":20,\"doc\":[\"div\",[\"div\"],[\"div\",{}]]}\n{\"do\":\"dump\"}\n",
-        b"ok 0 3\nbox 0 div 0 0 640 0 640 0\nbox 1 div 0 0 640 0 640 0\nbox 2 div 0 0 640 0 640 0\nok\n",
-    )?;
-    expect_replies(&rt, rt.alloc(), b"", b"")?;
-    expect_replies(&rt, rt.alloc(), b"   \n\t\r\n", b"")?;
-    Ok(())
-}
-
-#[test]
-fn refusals_name_their_cause(rt: HostRuntime) -> Result<(), Fail> {
-    let table: [(&[u8], &[u8]); 17] = [
-        (b"{\"do\":\"dump\"}", b"error 4 not-loaded\n"),
-        (b"{\"do\":\"fly\",\"do\":\"dump\"}", b"error 4 not-loaded\n"),
-        (b"{", b"error 1 bad-json\n"),
-        (b"{\"do\":\"dump\"} x", b"error 1 bad-json\n"),
-        (b"{\"do\":\"\xff\"}", b"error 1 bad-json\n"),
-        (
-            b"{\"do\":\"dump\",\"a\":\"\\ud800\"}",
-            b"error 1 bad-json\n",
-        ),
-        (b"{\"do\":\"fly\"}", b"error 2 bad-request\n"),
-        (b"{\"do\":\"dump\",\"at\":1}", b"error 2 bad-request\n"),
-        (b"{\"do\":\"insert\"}", b"error 2 bad-request\n"),
-        (b"{\"do\":\"resize\"}", b"error 21 not-built\n"),
-        (b"{\"do\":\"remove\",\"id\":0}", b"error 4 not-loaded\n"),
-        (
-            b"{\"do\":\"insert\",\"parent\":0,\"index\":0,\"tree\":[\"div\"]}",
-            b"error 4 not-loaded\n",
-        ),
-        (
-            b"{\"do\":\"insert\",\"parent\":0,\"index\":0,\"tree\":\"text\"}",
-            b"error 21 not-built\n",
-        ),
-        (
-            b"{\"do\":\"load\",\"width\":10,\"height\":20,\"doc\":[\"p\"]}",
-            b"error 21 not-built\n",
-        ),
-        (
-            b"{\"do\":\"load\",\"width\":10001,\"height\":20,\"doc\":[\"div\"]}",
-            b"error 16 viewport-range\n",
-        ),
-        (
-            b"{\"do\":\"load\",\"width\":1,\"height\":1,\"doc\":[\"div\",\"text\"]}",
-            b"error 21 not-built\n",
-        ),
-        (
-            b"{\"do\":\"load\",\"width\":1,\"height\":1,\"doc\":\"div\"}",
-            b"error 2 bad-request\n",
-        ),
-    ];
-    for (line, reply) in table {
-        expect_replies(&rt, rt.alloc(), line, reply)?;
-    }
-    Ok(())
-}
-
-/// A load of one `div` at this width, and the reply to it.
-fn expect_width(
-    rt: &impl Abort,
-    alloc: Global,
-    width: &[u8],
-    reply: &[u8],
-) -> Result<(), NoMemory> {
-    let mut line = Vec::from_slice(alloc, b"{\"do\":\"load\",\"width\":")?;
-    line.extend_from_slice(width)?;
-    line.extend_from_slice(b",\"height\":1,\"doc\":[\"div\"]}")?;
-    expect_replies(rt, alloc, line.as_slice(), reply)
-}
-
-#[test]
-fn numbers_are_written_in_digits_alone(rt: HostRuntime) -> Result<(), Fail> {
-    let table: [(&[u8], &[u8]); 8] = [
-        (b"0", b"ok 0 1\n"),
-        (b"10000", b"ok 0 1\n"),
-        (b"-0", b"error 2 bad-request\n"),
-        (b"1.0", b"error 2 bad-request\n"),
-        (b"1e0", b"error 2 bad-request\n"),
-        (b"18446744073709551615", b"error 16 viewport-range\n"),
-        (b"18446744073709551616", b"error 2 bad-request\n"),
-        (b"1e400", b"error 1 bad-json\n"),
-    ];
-    for (width, reply) in table {
-        expect_width(&rt, rt.alloc(), width, reply)?;
-    }
-    Ok(())
-}
-
-/// Appends this so many times.
-fn repeat(line: &mut Vec<u8>, part: &[u8], times: usize) -> Result<(), NoMemory> {
-    for _ in 0..times {
-        line.extend_from_slice(part)?;
-    }
-    Ok(())
-}
-
-/// A load whose root has so many children.
-fn wide(alloc: Global, children: usize) -> Result<Vec<u8>, NoMemory> {
-    let mut line = Vec::from_slice(
-        alloc,
-        b"{\"do\":\"load\",\"width\":1,\"height\":1,\"doc\":[\"div\"",
-    )?;
-    repeat(&mut line, b",[\"div\"]", children)?;
-    line.extend_from_slice(b"]}")?;
-    Ok(line)
-}
-
-/// A load of a document with so many levels below its root.
-fn deep(alloc: Global, levels: usize) -> Result<Vec<u8>, NoMemory> {
-    let mut line = Vec::from_slice(
-        alloc,
-        b"{\"do\":\"load\",\"width\":1,\"height\":1,\"doc\":[\"div\"",
-    )?;
-    repeat(&mut line, b",[\"div\"", levels)?;
-    repeat(&mut line, b"]", levels)?;
-    line.extend_from_slice(b"]}")?;
-    Ok(line)
-}
-
-#[test]
-fn limits_of_a_document_are_exact(rt: HostRuntime) -> Result<(), Fail> {
-    let widest = wide(rt.alloc(), 19_999)?;
-    expect_replies(&rt, rt.alloc(), widest.as_slice(), b"ok 0 20000\n")?;
-    let wider = wide(rt.alloc(), 20_000)?;
-    expect_replies(&rt, rt.alloc(), wider.as_slice(), b"error 12 node-limit\n")?;
-    let deepest = deep(rt.alloc(), 95)?;
-    expect_replies(&rt, rt.alloc(), deepest.as_slice(), b"ok 0 96\n")?;
-    let deeper = deep(rt.alloc(), 96)?;
-    expect_replies(
-        &rt,
-        rt.alloc(),
-        deeper.as_slice(),
-        b"error 13 depth-limit\n",
-    )?;
-    // The document stands in the object of the request, so the JSON nests one level deeper.
-    let nested = deep(rt.alloc(), 125)?;
-    expect_replies(
-        &rt,
-        rt.alloc(),
-        nested.as_slice(),
-        b"error 13 depth-limit\n",
-    )?;
-    let too_nested = deep(rt.alloc(), 126 + 1)?;
-    expect_replies(
-        &rt,
-        rt.alloc(),
-        too_nested.as_slice(),
+/// Scripts with their replies, a row for each behaviour.
+const ROWS: [(&[u8], &[u8]); 36] = [
+    (b"", b""),
+    (b"   \n\t\r\n\n", b""),
+    (b"\x0c", b"error 1 bad-json\n"),
+    (b"\x0b\n", b"error 1 bad-json\n"),
+    (br#"{"do":"dump"}"#, b"error 4 not-loaded\n"),
+    (br#"{"do":"fly","do":"dump"}"#, b"error 4 not-loaded\n"),
+    (b"{", b"error 1 bad-json\n"),
+    (br#"{"do":"dump"} x"#, b"error 1 bad-json\n"),
+    (b"{\"do\":\"\xff\"}", b"error 1 bad-json\n"),
+    (br#"{"do":"dump","a":"\ud800"}"#, b"error 1 bad-json\n"),
+    (br#"{"do":"fly"}"#, b"error 2 bad-request\n"),
+    (br#"{"do":"dump","at":1}"#, b"error 2 bad-request\n"),
+    (br#"{"do":"insert"}"#, b"error 2 bad-request\n"),
+    (br#"{"do":"resize"}"#, b"error 21 not-built\n"),
+    (br#"{"do":"remove","id":0}"#, b"error 4 not-loaded\n"),
+    (
+        br#"{"do":"insert","parent":0,"index":0,"tree":["div"]}"#,
+        b"error 4 not-loaded\n",
+    ),
+    (
+        br#"{"do":"insert","parent":0,"index":0,"tree":["div"],"at":0}"#,
+        b"error 2 bad-request\n",
+    ),
+    (
+        br#"{"do":"insert","parent":0,"index":0,"tree":"text"}"#,
+        b"error 21 not-built\n",
+    ),
+    (
+        br#"{"do":"load","width":10001,"height":20,"doc":["p"]}"#,
+        b"error 21 not-built\n",
+    ),
+    (
+        br#"{"do":"load","width":10001,"height":20,"doc":["div"]}"#,
+        b"error 16 viewport-range\n",
+    ),
+    (
+        br#"{"do":"load","width":20,"height":10001,"doc":["div"]}"#,
+        b"error 16 viewport-range\n",
+    ),
+    (
+        br#"{"do":"load","width":10000,"height":10000,"doc":["div"]}"#,
+        b"ok 0 1\n",
+    ),
+    (
+        br#"{"do":"load","width":1,"height":1,"doc":["div"],"at":0}"#,
+        b"error 2 bad-request\n",
+    ),
+    (
+        br#"{"do":"load","width":1,"height":1,"doc":["div"],"sheets":null}"#,
+        b"error 2 bad-request\n",
+    ),
+    (
+        br#"{"do":"load","width":1,"height":1,"doc":["div"],"sheets":[1]}"#,
+        b"error 2 bad-request\n",
+    ),
+    (
+        br#"{"do":"load","width":1,"height":1,"doc":["div"],"sheets":[]}"#,
+        b"error 21 not-built\n",
+    ),
+    (
+        br#"{"do":"load","width":1,"height":1,"doc":["div","text"]}"#,
+        b"error 21 not-built\n",
+    ),
+    (
+        br#"{"do":"load","width":1,"height":1,"doc":"div"}"#,
+        b"error 2 bad-request\n",
+    ),
+    (
+        br#"{"do":"load","width":-0,"height":1,"doc":["div"]}"#,
+        b"error 2 bad-request\n",
+    ),
+    (
+        br#"{"do":"load","width":1.0,"height":1,"doc":["div"]}"#,
+        b"error 2 bad-request\n",
+    ),
+    (
+        br#"{"do":"load","width":1e400,"height":1,"doc":["div"]}"#,
         b"error 1 bad-json\n",
-    )?;
+    ),
+    (
+        br#"{"do":"load","width":18446744073709551615,"height":1,"doc":["div"]}
+{"do":"load","width":18446744073709551616,"height":1,"doc":["div"]}"#,
+        b"error 16 viewport-range\nerror 2 bad-request\n",
+    ),
+    // A refused load leaves the page as it was.
+    (
+        br#"{"do":"load","width":10,"height":20,"doc":["div",["div"],["div",{}]]}
+{"do":"load","width":10001,"height":20,"doc":["div"]}
+{"do":"dump"}"#,
+        br#"ok 0 3
+error 16 viewport-range
+box 0 div 0 0 640 0 640 0
+box 1 div 0 0 640 0 640 0
+box 2 div 0 0 640 0 640 0
+ok
+"#,
+    ),
+    // Ids go on after a remove, and a number past all ids is not cut.
+    (
+        br#"{"do":"load","width":10,"height":20,"doc":["div"]}
+{"do":"insert","parent":0,"index":0,"tree":["div",["div"]]}
+{"do":"remove","id":1}
+{"do":"remove","id":2}
+{"do":"insert","parent":0,"index":0,"tree":["div",["div"]]}
+{"do":"remove","id":0}
+{"do":"insert","parent":4,"index":1,"tree":["div"]}
+{"do":"insert","parent":4294967296,"index":0,"tree":["div"]}
+{"do":"insert","parent":0,"index":4294967296,"tree":["div"]}
+{"do":"remove","id":4294967299}
+{"do":"insert","parent":0,"index":0,"tree":["div"]}
+{"do":"insert","parent":0,"index":2,"tree":["div"]}
+{"do":"dump"}"#,
+        br#"ok 0 1
+ok 1 2
+ok
+error 5 no-node
+ok 3 2
+error 8 is-root
+error 10 bad-index
+error 5 no-node
+error 10 bad-index
+error 5 no-node
+ok 5 1
+ok 6 1
+box 0 div 0 0 640 0 640 0
+box 5 div 0 0 640 0 640 0
+box 3 div 0 0 640 0 640 0
+box 4 div 0 0 640 0 640 0
+box 6 div 0 0 640 0 640 0
+ok
+"#,
+    ),
+    // The script of the README.
+    (
+        br#"{"do":"dump"}
+{"do":"load","width":800,"height":600,"doc":["div",["div"],["div",["div"]]]}
+{"do":"dump"}
+{"do":"insert","parent":2,"index":1,"tree":["div"]}
+{"do":"remove","id":3}
+{"do":"remove","id":3}
+{"do":"load","width":800,"height":600,"doc":["p"]}"#,
+        br#"error 4 not-loaded
+ok 0 4
+box 0 div 0 0 51200 0 51200 0
+box 1 div 0 0 51200 0 51200 0
+box 2 div 0 0 51200 0 51200 0
+box 3 div 0 0 51200 0 51200 0
+ok
+ok 4 1
+ok
+error 5 no-node
+error 21 not-built
+"#,
+    ),
+    // The script of docs/protocol.md.
+    (
+        br#"{"do":"load","width":10,"height":20,"doc":["div",["div",{}]]}
+{"do":"insert","parent":0,"index":0,"tree":["div",["div"]]}
+{"do":"remove","id":2}
+{"do":"remove","id":3}
+{"do":"insert","parent":0,"index":1,"tree":["div"]}
+{"do":"insert","parent":0,"index":9,"tree":["div"]}
+{"do":"dump"}"#,
+        br#"ok 0 2
+ok 2 2
+ok
+error 5 no-node
+ok 4 1
+error 10 bad-index
+box 0 div 0 0 640 0 640 0
+box 1 div 0 0 640 0 640 0
+box 4 div 0 0 640 0 640 0
+ok
+"#,
+    ),
+];
+
+#[test]
+fn each_script_has_its_replies(rt: HostRuntime) -> Result<(), Fail> {
+    for (script, replies) in ROWS {
+        expect_replies(&rt, rt.alloc(), script, replies)?;
+    }
+    Ok(())
+}
+
+/// Appends `part` to `script` `times` times.
+fn repeat(script: &mut Vec<u8>, part: &[u8], times: usize) -> Result<(), NoMemory> {
+    for _ in 0..times {
+        script.extend_from_slice(part)?;
+    }
+    Ok(())
+}
+
+/// Appends `head`, a `div` with `children` children each in the one before it or side by side, and
+/// the end of the request.
+fn add_tree(
+    script: &mut Vec<u8>,
+    head: &[u8],
+    children: usize,
+    nested: bool,
+) -> Result<(), NoMemory> {
+    script.extend_from_slice(head)?;
+    script.extend_from_slice(br#"["div""#)?;
+    if nested {
+        repeat(script, br#",["div""#, children)?;
+        repeat(script, b"]", children)?;
+    } else {
+        repeat(script, br#",["div"]"#, children)?;
+    }
+    script.extend_from_slice(b"]}\n")
+}
+
+const LOAD: &[u8] = br#"{"do":"load","width":1,"height":1,"doc":"#;
+
+const INSERT: &[u8] = br#"{"do":"insert","parent":0,"index":0,"tree":"#;
+
+const INSERT_PAST: &[u8] = br#"{"do":"insert","parent":0,"index":20000,"tree":"#;
+
+#[test]
+fn limits_are_exact(rt: HostRuntime) -> Result<(), Fail> {
+    let mut script = Vec::new(rt.alloc());
+    add_tree(&mut script, LOAD, 20_000, false)?;
+    add_tree(&mut script, LOAD, 96, true)?;
+    add_tree(&mut script, LOAD, 125, true)?;
+    add_tree(&mut script, LOAD, 127, true)?;
+    add_tree(&mut script, LOAD, 95, true)?;
+    add_tree(&mut script, LOAD, 19_999, false)?;
+    add_tree(&mut script, INSERT_PAST, 0, false)?;
+    add_tree(&mut script, INSERT, 95, true)?;
+    add_tree(&mut script, INSERT, 0, false)?;
+    let replies: &[u8] = b"error 12 node-limit\nerror 13 depth-limit\nerror 13 depth-limit\n\
+error 1 bad-json\nok 0 96\nok 0 20000\nerror 10 bad-index\nerror 13 depth-limit\n\
+error 12 node-limit\n";
+    expect_replies(&rt, rt.alloc(), script.as_slice(), replies)?;
+    Ok(())
+}
+
+#[test]
+fn ids_have_a_limit(rt: HostRuntime) -> Result<(), Fail> {
+    let mut script = Vec::new(rt.alloc());
+    add_tree(&mut script, LOAD, 0, false)?;
+    for id in ["1", "20000", "39999", "59998"] {
+        add_tree(&mut script, INSERT, 19_998, false)?;
+        script.extend_from_slice(br#"{"do":"remove","id":"#)?;
+        script.extend_from_slice(id.as_bytes())?;
+        script.extend_from_slice(b"}\n")?;
+    }
+    add_tree(&mut script, INSERT, 19_998, false)?;
+    add_tree(&mut script, INSERT, 4, false)?;
+    script.extend_from_slice(b"{\"do\":\"remove\",\"id\":79997}\n")?;
+    add_tree(&mut script, INSERT, 4, false)?;
+    add_tree(&mut script, INSERT, 3, false)?;
+    add_tree(&mut script, INSERT, 0, false)?;
+    let replies: &[u8] = b"ok 0 1\nok 1 19999\nok\nok 20000 19999\nok\nok 39999 19999\nok\n\
+ok 59998 19999\nok\nok 79997 19999\nerror 12 node-limit\nok\nerror 15 id-limit\nok 99996 4\n\
+error 15 id-limit\n";
+    expect_replies(&rt, rt.alloc(), script.as_slice(), replies)?;
     Ok(())
 }
 
 #[test]
 fn a_long_line_is_read_past(rt: HostRuntime) -> Result<(), Fail> {
     let mut script = Vec::new(rt.alloc());
-    repeat(&mut script, b"x", 4_194_305)?;
+    repeat(&mut script, b" ", 4_194_304)?;
     script.push(b'\n')?;
-    script.extend_from_slice(LOAD_ONE)?;
-    script.extend_from_slice(DUMP)?;
+    repeat(&mut script, b" ", 4_194_305)?;
+    script.push(b'\n')?;
+    script.extend_from_slice(ONE_BOX)?;
     let mut replies = Vec::from_slice(rt.alloc(), b"error 3 line-too-long\n")?;
-    replies.extend_from_slice(ONE_BOX)?;
+    replies.extend_from_slice(ONE_BOX_REPLIES)?;
     expect_replies(&rt, rt.alloc(), script.as_slice(), replies.as_slice())?;
+    Ok(())
+}
+
+/// Runs with these words into a sink of this room, and compares.
+fn expect_usage(
+    rt: &impl Abort,
+    alloc: Global,
+    words: &[String],
+    room: usize,
+    status: Status,
+) -> Result<(), NoMemory> {
+    let usage = b"usage: relayout [--gen N] [--profile 1|2]\n".as_slice();
+    let mut source = MemSource::new(alloc, ONE_BOX, 1000, None)?;
+    let mut sink = MemSink::new(alloc, room)?;
+    let mut steps = Steps::new(());
+    let given = run(alloc, words, &mut source, &mut sink, &mut steps);
+    assert_eq!(rt; given, status);
+    assert_eq!(rt; sink.bytes(), &usage[..room.min(usage.len())]);
     Ok(())
 }
 
 #[test]
 fn other_words_are_told_the_usage(rt: HostRuntime) -> Result<(), Fail> {
-    let words = words(rt.alloc(), true)?;
-    let mut source = MemSource::new(rt.alloc(), LOAD_ONE, 1000, None)?;
-    let mut sink = MemSink::new(rt.alloc(), 1000)?;
+    let two = words(rt.alloc(), 1)?;
+    let none = Vec::new(rt.alloc());
+    expect_usage(&rt, rt.alloc(), two.as_slice(), 1000, Status::BadWords)?;
+    expect_usage(&rt, rt.alloc(), none.as_slice(), 1000, Status::BadWords)?;
+    expect_usage(&rt, rt.alloc(), two.as_slice(), 5, Status::WriteFault)?;
+    Ok(())
+}
+
+#[test]
+fn statuses_have_their_numbers(rt: HostRuntime) {
+    assert_eq!(rt; Status::Done.number(), 0);
+    assert_eq!(rt; Status::BadWords.number(), 2);
+    assert_eq!(rt; Status::ReadFault.number(), 3);
+    assert_eq!(rt; Status::WriteFault.number(), 4);
+    assert_eq!(rt; Status::NoMemory.number(), 5);
+    assert_eq!(rt; Status::InputSpent.number(), 6);
+}
+
+/// Returns how many pairs a ledger that had one has since its last mark after this script.
+fn pairs_after(alloc: Global, script: &[u8]) -> Result<u64, NoMemory> {
+    let words = words(alloc, 0)?;
+    let mut source = MemSource::new(alloc, script, 1000, None)?;
+    let mut sink = MemSink::new(alloc, 1000)?;
     let mut steps = Steps::new(());
-    let status = run(
-        rt.alloc(),
-        words.as_slice(),
-        &mut source,
-        &mut sink,
-        &mut steps,
-    );
-    assert_eq!(rt; status.number(), 2);
-    assert_eq!(rt;
-        sink.bytes(),
-        b"usage: relayout [--gen N] [--profile 1|2]\n".as_slice()
-    );
-    Ok(())
-}
-
-/// Adds an insert of this tree to a script.
-fn add_insert(
-    script: &mut Vec<u8>,
-    parent: &[u8],
-    index: &[u8],
-    tree: &[u8],
-) -> Result<(), NoMemory> {
-    script.extend_from_slice(b"{\"do\":\"insert\",\"parent\":")?;
-    script.extend_from_slice(parent)?;
-    script.extend_from_slice(b",\"index\":")?;
-    script.extend_from_slice(index)?;
-    script.extend_from_slice(b",\"tree\":")?;
-    script.extend_from_slice(tree)?;
-    script.extend_from_slice(b"}\n")
-}
-
-/// Adds a remove to a script.
-fn add_remove(script: &mut Vec<u8>, id: &[u8]) -> Result<(), NoMemory> {
-    script.extend_from_slice(b"{\"do\":\"remove\",\"id\":")?;
-    script.extend_from_slice(id)?;
-    script.extend_from_slice(b"}\n")
+    steps.tick(Kind::Match, 0);
+    let _status = run(alloc, words.as_slice(), &mut source, &mut sink, &mut steps);
+    Ok(steps.count(Kind::Match))
 }
 
 #[test]
-fn ids_go_on_after_a_remove(rt: HostRuntime) -> Result<(), Fail> {
-    let mut script = Vec::from_slice(rt.alloc(), LOAD_ONE)?;
-    add_insert(&mut script, b"0", b"0", b"[\"div\",[\"div\"]]")?;
-    add_remove(&mut script, b"1")?;
-    add_remove(&mut script, b"2")?;
-    add_insert(&mut script, b"0", b"0", b"[\"div\",[\"div\"]]")?;
-    add_remove(&mut script, b"0")?;
-    add_insert(&mut script, b"4", b"1", b"[\"div\"]")?;
-    add_insert(&mut script, b"0", b"0", b"[\"div\"]")?;
-    add_insert(&mut script, b"0", b"2", b"[\"div\"]")?;
-    add_insert(&mut script, b"0", b"1", b"[\"div\"]")?;
-    script.extend_from_slice(DUMP)?;
-    let replies: &[u8] = b"ok 0 1\nok 1 2\nok\nerror 5 no-node\nok 3 2\nerror 8 is-root\n\
-error 10 bad-index\nok 5 1\nok 6 1\nok 7 1\nbox 0 div 0 0 51200 0 51200 0\n\
-box 5 div 0 0 51200 0 51200 0\nbox 7 div 0 0 51200 0 51200 0\n\
-box 3 div 0 0 51200 0 51200 0\nbox 4 div 0 0 51200 0 51200 0\n\
-box 6 div 0 0 51200 0 51200 0\nok\n";
-    expect_replies(&rt, rt.alloc(), script.as_slice(), replies)?;
-    Ok(())
-}
-
-#[test]
-fn numbers_of_requests_are_not_cut(rt: HostRuntime) -> Result<(), Fail> {
-    let mut script = Vec::from_slice(rt.alloc(), LOAD_ONE)?;
-    add_insert(&mut script, b"0", b"0", b"[\"div\"]")?;
-    add_remove(&mut script, b"4294967296")?;
-    add_remove(&mut script, b"4294967297")?;
-    add_remove(&mut script, b"18446744073709551615")?;
-    add_insert(&mut script, b"4294967297", b"9", b"[\"div\"]")?;
-    add_insert(&mut script, b"1", b"4294967296", b"[\"div\"]")?;
-    add_insert(&mut script, b"1", b"18446744073709551615", b"[\"div\"]")?;
-    let replies: &[u8] = b"ok 0 1\nok 1 1\nerror 5 no-node\nerror 5 no-node\n\
-error 5 no-node\nerror 5 no-node\nerror 10 bad-index\nerror 10 bad-index\n";
-    expect_replies(&rt, rt.alloc(), script.as_slice(), replies)?;
-    Ok(())
-}
-
-#[test]
-fn limits_of_an_insert_are_exact(rt: HostRuntime) -> Result<(), Fail> {
-    let mut script = wide(rt.alloc(), 19_998)?;
-    script.push(b'\n')?;
-    add_insert(&mut script, b"0", b"0", b"[\"div\",[\"div\"]]")?;
-    add_insert(&mut script, b"0", b"0", b"[\"div\"]")?;
-    add_insert(&mut script, b"0", b"0", b"[\"div\"]")?;
-    add_remove(&mut script, b"1")?;
-    add_insert(&mut script, b"0", b"0", b"[\"div\"]")?;
-    let deepest = deep(rt.alloc(), 95)?;
-    script.extend_from_slice(deepest.as_slice())?;
-    script.push(b'\n')?;
-    add_insert(&mut script, b"95", b"0", b"[\"div\"]")?;
-    add_insert(&mut script, b"94", b"1", b"[\"div\",[\"div\"]]")?;
-    add_insert(&mut script, b"94", b"1", b"[\"div\"]")?;
-    let replies: &[u8] =
-        b"ok 0 19999\nerror 12 node-limit\nok 19999 1\nerror 12 node-limit\nok\nok 20000 1\n\
-ok 0 96\nerror 13 depth-limit\nerror 13 depth-limit\nok 96 1\n";
-    expect_replies(&rt, rt.alloc(), script.as_slice(), replies)?;
+fn edits_mark_the_ledger(rt: HostRuntime) -> Result<(), Fail> {
+    let queries = pairs_after(rt.alloc(), b"\n{\"do\":\"dump\"}\n{\n{\"do\":\"resize\"}\n")?;
+    assert_eq!(rt; queries, 1);
+    let refused = pairs_after(rt.alloc(), br#"{"do":"remove","id":0}"#)?;
+    assert_eq!(rt; refused, 0);
     Ok(())
 }

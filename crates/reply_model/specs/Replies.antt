@@ -1,5 +1,5 @@
 -- The reply to a line, and the replies to a script.
-use Rattle.std.specs.Prelude.{◌≡◌, ℕ, List, [], ◌∷◌, ◌++◌, Bool, true, false, if◌then◌else◌, Option, Some, None}
+use Rattle.std.specs.Prelude.{◌≡◌, ℕ, zero, suc, List, [], ◌∷◌, ◌++◌, Bool, true, false, Option, Some, None}
 use Rattle.stream_model.specs.Ledger.{Log}
 use Rattle.page_model.specs.Pages.{Page, State}
 use Rattle.page_model.specs.Refusals.{Causes, first_of}
@@ -8,7 +8,7 @@ use Rattle.request_model.specs.declared.query.Query.{Query}
 use Rattle.request_model.specs.declared.query.Query.TheVariants.{Dump}
 use Rattle.request_model.specs.declared.accepted.Accepted.{Accepted}
 use Rattle.request_model.specs.Requests.{Edit, Request, edit, query, Asked, asked_of_line}
-use Rattle.request_model.specs.States.{Answer, silent, refused, accepted, answer_to, accepted_by, brings_tree, state_after_edit, marks, begins_log}
+use Rattle.request_model.specs.States.{Answer, silent, refused, accepted, answer_to, accepted_by, brings_tree, state_after_edit, logs_of, logs_of_refused}
 use Rattle.layout_model.specs.Setting.{Setting}
 use Rattle.layout_model.specs.Consistent.{Assignment, Consistent}
 use Rattle.reply_model.specs.Spelling.{ok_line, ok_nodes_line, error_line}
@@ -29,18 +29,18 @@ start = record { state = None; last = [] }
 abbrev pub IsLogOf : Setting → Course → Request → Option Assignment → Log → Type 0
 IsLogOf setting from q a log = log ≡ []
 
--- one log with this property where a log is begun, else none
-abbrev pub AreLogs : Bool → (Log → Type 0) → List Log → Type 0
-AreLogs true P own = (log : Log) × P log × (own ≡ log ∷ [])
-AreLogs false P own = own ≡ []
+-- n logs with this property
+abbrev pub AreLogs : ℕ → (Log → Type 0) → List Log → Type 0
+AreLogs zero P own = own ≡ []
+AreLogs (suc n) P own = (log : Log) × P log × ((others : List Log) × AreLogs n P others × (own ≡ log ∷ others))
 
 -- the logs of a request that is carried out
 abbrev pub AreLogsOf : Setting → Course → Request → Option Assignment → List Log → Type 0
-AreLogsOf setting from q a own = AreLogs (marks q) (IsLogOf setting from q a) own
+AreLogsOf setting from q a own = AreLogs (logs_of q) (IsLogOf setting from q a) own
 
 -- the logs of what is refused: nothing is logged
 abbrev pub AreRefusedLogs : Asked → List Log → Type 0
-AreRefusedLogs asked own = AreLogs (begins_log asked) (λ log. log ≡ []) own
+AreRefusedLogs asked own = AreLogs (logs_of_refused asked) (λ log. log ≡ []) own
 
 -- the newest of these logs, or the last one before them
 abbrev pub newest : List Log → Log → Log
@@ -49,52 +49,56 @@ newest (log ∷ logs) last = newest logs log
 
 -- ---- queries
 
--- why a query is refused for what its assignment says: no form of an assignment is refused today
-abbrev pub assignment_causes : Query → Page → Assignment → Causes
-assignment_causes Dump page a = []
-
--- the text that a query asks for
-abbrev pub query_text : Query → Log → Page → Assignment → List ℕ
-query_text Dump last page a = dump_text page.document.root a ++ ok_line
+-- why a dump is refused for what its assignment says: no form of an assignment is refused today
+abbrev pub dump_causes : Page → Assignment → Causes
+dump_causes page a = []
 
 -- this text, unless there is a cause to refuse it
 abbrev pub text_unless : Option Cause → List ℕ → List ℕ
 text_unless None text = text
 text_unless (Some c) text = error_line c
 
--- the reply to a query, by the one consistent assignment of what is loaded, and what it logs
-abbrev pub IsQueryReply : Setting → Course → Query → List Log → List ℕ → State → Type 0
-IsQueryReply setting from q own reply None = ⊥
-IsQueryReply setting from q own reply (Some page) =
-    (a : Assignment) × Consistent setting page a × AreLogsOf setting from (query q) (Some a) own
-    × (reply ≡ text_unless (first_of (assignment_causes q page a)) (query_text q from.last page a))
+-- the reply to a query of a page, and what it logs; a dump is by the one consistent assignment
+abbrev pub IsReplyOn : Page → Setting → Course → Query → List Log → List ℕ → Type 0
+IsReplyOn page setting from Dump own reply =
+    (a : Assignment) × Consistent setting page a × AreLogsOf setting from (query Dump) (Some a) own
+    × (reply ≡ text_unless (first_of (dump_causes page a)) (dump_text page.document.root a ++ ok_line))
+
+-- the reply to a query of what is loaded
+abbrev pub IsQueryReply : State → Setting → Course → Query → List Log → List ℕ → Type 0
+IsQueryReply None setting from q own reply = ⊥
+IsQueryReply (Some page) setting from q own reply = IsReplyOn page setting from q own reply
 
 -- ---- edits
 
--- the reply to an edit: the first new id and the number of new nodes, if it brought a tree
+-- the line of an edit: the first new id and the number of new nodes, if it brought a tree
 abbrev pub edit_text : Bool → Accepted → List ℕ
 edit_text true new = ok_nodes_line new.first new.count
 edit_text false new = ok_line
 
--- the reply to an edit, what it logs, and where it leads
+-- the reply to an edit that leads from one place to another
+abbrev pub IsEditText : Setting → Course → Edit → Course → List ℕ → Type 0
+IsEditText setting from e to reply = reply ≡ edit_text (brings_tree e) (accepted_by from.state e)
+
+-- an edit that is carried out: what it logs, its reply, and where it leads
 pub record IsEditReply (setting : Setting) (from : Course) (e : Edit) (own : List Log) (reply : List ℕ) (to : Course) : Type 0 where
   pub logs : AreLogsOf setting from (edit e) None own
-  pub text : reply ≡ edit_text (brings_tree e) (accepted_by from.state e)
+  pub text : IsEditText setting from e to reply
   pub state : to.state ≡ state_after_edit from.state e
   pub last : to.last ≡ newest own from.last
 
 -- ---- one line
 
--- how what a line asks for is answered: what is logged, the reply, and where it leads
-abbrev pub IsAnswered : Setting → Course → Asked → List Log → List ℕ → Course → Answer → Type 0
-IsAnswered setting from asked own reply to silent = (own ≡ []) × (reply ≡ []) × (to ≡ from)
-IsAnswered setting from asked own reply to (refused c) = AreRefusedLogs asked own × (reply ≡ error_line c) × (to ≡ from)
-IsAnswered setting from asked own reply to (accepted (edit e)) = IsEditReply setting from e own reply to
-IsAnswered setting from asked own reply to (accepted (query q)) = IsQueryReply setting from q own reply from.state × (to ≡ from)
+-- what a line asks for was answered so: what is logged, the reply, and where it leads
+abbrev pub IsAnswered : Answer → Setting → Course → Asked → List Log → List ℕ → Course → Type 0
+IsAnswered silent setting from asked own reply to = (own ≡ []) × (reply ≡ []) × (to ≡ from)
+IsAnswered (refused c) setting from asked own reply to = AreRefusedLogs asked own × (reply ≡ error_line c) × (to ≡ from)
+IsAnswered (accepted (edit e)) setting from asked own reply to = IsEditReply setting from e own reply to
+IsAnswered (accepted (query q)) setting from asked own reply to = IsQueryReply from.state setting from q own reply × (to ≡ from)
 
 -- one turn of a script: from one place to the next, by what a line asks for
 unfoldable pub IsTurn : Setting → Course → Asked → List Log → List ℕ → Course → Type 0
-IsTurn setting from asked own reply to = IsAnswered setting from asked own reply to (answer_to from.state asked)
+IsTurn setting from asked own reply to = IsAnswered (answer_to from.state asked) setting from asked own reply to
 
 -- ---- a script
 

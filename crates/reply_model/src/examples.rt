@@ -5,16 +5,20 @@ ghost use Rattle.stream_model.specs.Ledger.{Log};
 ghost use Rattle.stream_model.specs.declared.kind.Kind.TheVariants.{Match, Style};
 ghost use Rattle.page_model.specs.Document.{element, text, no_nodes, node};
 ghost use Rattle.page_model.specs.declared.cause.Cause.{Cause};
-ghost use Rattle.page_model.specs.declared.cause.Cause.TheVariants.{ViewportRange, NotBuilt};
+ghost use Rattle.page_model.specs.declared.cause.Cause.TheVariants.{BadJson, ViewportRange, NotBuilt};
 ghost use Rattle.request_model.specs.declared.query.Query.{Query};
-ghost use Rattle.request_model.specs.Requests.{Asked, Edit, edit, query, request};
-ghost use Rattle.request_model.specs.States.{silent, refused, accepted};
+ghost use Rattle.request_model.specs.Requests.{Asked, Edit, Request, edit, query, request, nothing, broken, asked_of_line, load};
+ghost use Rattle.request_model.specs.declared.query.Query.TheVariants.{Dump};
+ghost use Rattle.page_model.specs.Pages.{Page};
+ghost use Rattle.page_model.specs.Trees.{elem, no_trees};
+ghost use Rattle.layout_model.specs.Consistent.{Assignment, Consistent};
+ghost use Rattle.request_model.specs.States.{refusal_of, silent, refused, accepted, brings_tree, accepted_by, state_after_edit};
 ghost use Rattle.layout_model.specs.Boxes.{Box};
 ghost use Rattle.layout_model.specs.Consistent.{Entry};
 ghost use Rattle.layout_model.specs.Setting.{Setting};
 ghost use Rattle.reply_model.specs.Spelling.{ok_line, ok_nodes_line, error_line};
-ghost use Rattle.reply_model.specs.DumpText.{box_line, box_lines};
-ghost use Rattle.reply_model.specs.Replies.{Course, edit_text, newest, text_unless, start, IsAnswered};
+ghost use Rattle.reply_model.specs.DumpText.{box_line, entry_line, box_lines, dump_text};
+ghost use Rattle.reply_model.specs.Replies.{Course, edit_text, newest, text_unless, start, IsAnswered, IsTurn, IsLogOf, AreReplies, Replies};
 
 /// The lines of replies, each with its newline.
 #[tactic(auto, unfolding(crate::specs::Spelling::ok_line, crate::specs::Spelling::ok_nodes_line, crate::specs::Spelling::error_line, crate::specs::DumpText::box_line))]
@@ -93,6 +97,52 @@ pub fn examples_of_dumps()
           content_height = pos 17;
         })) }
     ensures nothing_given { box_lines (λ _. None) (pos 0) (pos 0) (element 0 (codes "a") [] no_nodes) ≡ [] }
+    ensures dump_at_the_corner { dump_text (element 0 (codes "a") [] no_nodes)
+        (λ _. Some (record {
+          box = record {
+            left = pos 3;
+            top = pos 50;
+            width = pos 7;
+            height = pos 11;
+            content_left = pos 100;
+            content_top = pos 2000;
+            content_width = pos 13;
+            content_height = pos 17;
+          };
+        }))
+        ≡ box_line 0 (encode_utf8_all (codes "a")) (pos 3) (pos 50) (record {
+          left = pos 3;
+          top = pos 50;
+          width = pos 7;
+          height = pos 11;
+          content_left = pos 100;
+          content_top = pos 2000;
+          content_width = pos 13;
+          content_height = pos 17;
+        }) }
+    ensures name_in_utf8 { entry_line 7 (233 ∷ []) (pos 1) (pos 2) (Some (record {
+      box = record {
+        left = pos 3;
+        top = pos 4;
+        width = pos 5;
+        height = pos 6;
+        content_left = pos 7;
+        content_top = pos 8;
+        content_width = pos 9;
+        content_height = pos 10;
+      };
+    }))
+        ≡ box_line 7 (encode_utf8_all (233 ∷ [])) (pos 4) (pos 6) (record {
+          left = pos 3;
+          top = pos 4;
+          width = pos 5;
+          height = pos 6;
+          content_left = pos 7;
+          content_top = pos 8;
+          content_width = pos 9;
+          content_height = pos 10;
+        }) }
+    ensures below_nothing_given { box_lines (λ _. None) (pos 0) (pos 0) (element 0 (codes "a") [] (node (element 1 (codes "b") [] no_nodes) no_nodes)) ≡ [] }
 {}
 
 /// What the last accepted edit logged is kept until the next one; what is refused or passed over
@@ -102,13 +152,48 @@ pub fn examples_of_turns()
     ensures newest_log { newest (((Match, 1) ∷ []) ∷ ((Style, 2) ∷ []) ∷ []) [] ≡ (Style, 2) ∷ [] }
     ensures no_log { newest [] ((Style, 2) ∷ []) ≡ (Style, 2) ∷ [] }
     ensures blank_leaves { (setting : Setting) (from to : Course) (asked : Asked) (own : List Log) (reply : List ℕ)
-        → IsAnswered setting from asked own reply to silent → (to ≡ from) × (own ≡ []) × (reply ≡ []) }
+        → IsAnswered silent setting from asked own reply to → (to ≡ from) × (own ≡ []) × (reply ≡ []) }
     ensures refused_leaves { (setting : Setting) (from to : Course) (asked : Asked) (own : List Log) (reply : List ℕ) (c : Cause)
-        → IsAnswered setting from asked own reply to (refused c) → (to ≡ from) × (reply ≡ error_line c) }
+        → IsAnswered (refused c) setting from asked own reply to → (to ≡ from) × (reply ≡ error_line c) }
     ensures query_leaves { (setting : Setting) (from to : Course) (asked : Asked) (own : List Log) (reply : List ℕ) (q : Query)
-        → IsAnswered setting from asked own reply to (accepted (query q)) → to ≡ from }
+        → IsAnswered (accepted (query q)) setting from asked own reply to → to ≡ from }
     ensures edit_is_the_last { (setting : Setting) (from to : Course) (asked : Asked) (log : Log) (reply : List ℕ) (e : Edit)
-        → IsAnswered setting from asked (log ∷ []) reply to (accepted (edit e)) → to.last ≡ log }
+        → IsAnswered (accepted (edit e)) setting from asked (log ∷ []) reply to → to.last ≡ log }
     ensures refused_edit_logs_nothing { (setting : Setting) (from to : Course) (own : List Log) (reply : List ℕ) (c : Cause) (e : Edit)
-        → IsAnswered setting from (request (edit e)) own reply to (refused c) → own ≡ [] ∷ [] }
+        → IsAnswered (refused c) setting from (request (edit e)) own reply to → own ≡ [] ∷ [] }
+    ensures nothing_is_counted { (setting : Setting) (from : Course) (q : Request) (a : Option Assignment)
+        → IsLogOf setting from q a [] }
+    ensures logs_are_empty { (setting : Setting) (from : Course) (q : Request) (a : Option Assignment) (log : Log)
+        → IsLogOf setting from q a log → log ≡ [] }
+    ensures edit_leads { (setting : Setting) (from to : Course) (asked : Asked) (own : List Log) (reply : List ℕ) (e : Edit)
+        → IsAnswered (accepted (edit e)) setting from asked own reply to → to.state ≡ state_after_edit from.state e }
+    ensures edit_says { (setting : Setting) (from to : Course) (asked : Asked) (own : List Log) (reply : List ℕ) (e : Edit)
+        → IsAnswered (accepted (edit e)) setting from asked own reply to
+        → reply ≡ edit_text (brings_tree e) (accepted_by from.state e) }
+    ensures edit_logs_once { (setting : Setting) (from to : Course) (asked : Asked) (own : List Log) (reply : List ℕ) (e : Edit)
+        → IsAnswered (accepted (edit e)) setting from asked own reply to → own ≡ [] ∷ [] }
+    ensures dump_logs_nothing { (setting : Setting) (page : Page) (to : Course) (asked : Asked) (own : List Log) (reply : List ℕ)
+        → IsAnswered (accepted (query Dump)) setting (record { state = Some page; last = [] }) asked own reply to → own ≡ [] }
+    ensures dump_says { (setting : Setting) (page : Page) (to : Course) (asked : Asked) (own : List Log) (reply : List ℕ)
+        → IsAnswered (accepted (query Dump)) setting (record { state = Some page; last = [] }) asked own reply to
+        → (a : Assignment) × Consistent setting page a × (reply ≡ dump_text page.document.root a ++ ok_line) }
+    ensures no_query_of_nothing { (setting : Setting) (from to : Course) (asked : Asked) (own : List Log) (reply : List ℕ) (q : Query)
+        → from.state ≡ None → IsAnswered (accepted (query q)) setting from asked own reply to → ⊥ }
+{}
+
+/// The replies to a script: each line goes on from where the line before it leads.
+#[tactic(auto, unfolding(crate::specs::Replies::IsTurn, crate::specs::Replies::AreReplies))]
+pub fn examples_of_scripts()
+    ensures no_lines { (setting : Setting) (logs : List Log) (text : List ℕ) → Replies setting [] logs text → (logs ≡ []) × (text ≡ []) }
+    ensures nothing_is_said_of_nothing { (setting : Setting) → Replies setting [] [] [] }
+    ensures turn_of_a_remove { (setting : Setting) (to : Course) (own : List Log) (reply : List ℕ)
+        → IsTurn setting start (broken NotBuilt) own reply to → reply ≡ error_line NotBuilt }
+    ensures two_lines { (setting : Setting) (from : Course) (first second : List ℕ) (logs : List Log) (text : List ℕ)
+        → asked_of_line first ≡ broken BadJson → asked_of_line second ≡ broken NotBuilt
+        → AreReplies setting from (first ∷ second ∷ []) logs text
+        → text ≡ error_line BadJson ++ error_line NotBuilt }
+    ensures turn_by_the_state { (setting : Setting) (page : Page) (to : Course) (own : List Log) (reply : List ℕ)
+        → refusal_of (Some page) (query Dump) ≡ None
+        → IsTurn setting (record { state = Some page; last = [] }) (request (query Dump)) own reply to
+        → (a : Assignment) × (reply ≡ dump_text page.document.root a ++ ok_line) }
 {}

@@ -4,4 +4,4 @@
 
 mod examples;
 
-pub use examples::{examples_of_dumps, examples_of_lines, examples_of_turns};
+pub use examples::{examples_of_dumps, examples_of_lines, examples_of_scripts, examples_of_turns};

@@ -1,5 +1,5 @@
 -- The request that a line stands for.
-use Rattle.std.specs.Prelude.{ℕ, ◌+◌, ◌==◌, List, [], ◌∷◌, Bool, false, if◌then◌else◌, Option, Some, None, is_some, option_and_then, option_map, codes}
+use Rattle.std.specs.Prelude.{ℕ, ◌+◌, ◌==◌, List, [], ◌∷◌, Bool, if◌then◌else◌, Option, Some, None, is_some, option_and_then, option_map, codes}
 use Rattle.std.specs.List.{list_any}
 use Rattle.std.specs.Option.{option_map_or}
 use Rattle.std.specs.Str.{chars, is_utf8, bytes_eq}
@@ -39,6 +39,7 @@ members d = option_map_or count (as_object d) 0
 abbrev pub number_at : List ℕ → Data → Option ℕ
 number_at key d = option_and_then as_u64 (option_and_then as_number (get key d))
 
+-- the bytes of a string in UTF-8
 abbrev pub string_at : List ℕ → Data → Option (List ℕ)
 string_at key d = option_and_then as_str (get key d)
 
@@ -62,7 +63,7 @@ texts_of_items (item d ds) = text_and (as_str d) (texts_of_items ds)
 abbrev pub texts_of : Data → Option (List Text)
 texts_of d = option_and_then texts_of_items (as_array d)
 
--- what a member stands for that may be missing: None where it stands for nothing, Some None where it is missing
+-- a member that may be missing: `Some None` where it is missing, `None` where its value is not of this form
 abbrev pub optional : {X : Type 0} → (Data → Option X) → Option Data → Option (Option X)
 optional f None = Some None
 optional f (Some d) = option_map Some (f d)

@@ -1,10 +1,10 @@
 -- Which requests are refused, and the state that a line leaves.
-use Rattle.std.specs.Prelude.{ℕ, ◌&&◌, ◌||◌, List, [], ◌∷◌, ◌++◌, Bool, true, false, not, nat_lt, Option, Some, None, is_some, option_map, unwrap_or, codes}
+use Rattle.std.specs.Prelude.{ℕ, ◌&&◌, ◌||◌, List, [], ◌∷◌, ◌++◌, Bool, true, false, not, nat_lt, max, Option, Some, None, is_some, option_map, unwrap_or, codes}
 use Rattle.std.specs.Str.{bytes_eq}
 use Rattle.page_model.specs.Trees.{Tree, elem, characters, Trees, no_trees, tree, size}
 use Rattle.page_model.specs.Document.{Document, document}
 use Rattle.page_model.specs.Refusals.{Causes, first_of}
-use Rattle.page_model.specs.Edits.{load_refusals, insert_refusals, remove_refusals, after_insert, after_remove}
+use Rattle.page_model.specs.Edits.{load_causes, insert_causes, remove_causes, document_after_insert, document_after_remove}
 use Rattle.page_model.specs.Pages.{Page, State}
 use Rattle.page_model.specs.declared.limits.TheConstants.{MAX_SIDE}
 use Rattle.page_model.specs.declared.cause.Cause.{Cause}
@@ -12,7 +12,7 @@ use Rattle.page_model.specs.declared.cause.Cause.TheVariants.{NotLoaded, Viewpor
 use Rattle.request_model.specs.declared.query.Query.{Query}
 use Rattle.request_model.specs.declared.query.Query.TheVariants.{Dump}
 use Rattle.request_model.specs.declared.accepted.Accepted.{Accepted}
-use Rattle.request_model.specs.Requests.{Edit, load, insert, remove, Request, edit, query, Asked, nothing, broken, request, asked_of_line}
+use Rattle.request_model.specs.Requests.{Edit, load, insert, remove, Request, edit, query, Asked, nothing, broken, request}
 
 -- ---- refusals
 
@@ -45,9 +45,9 @@ needs_page (Some page) causes = causes page
 -- why an edit is refused, in the order in which this is asked
 abbrev pub edit_causes : State → Edit → Causes
 edit_causes s (load width height doc sheets) =
-    (nat_lt MAX_SIDE width || nat_lt MAX_SIDE height, ViewportRange) ∷ load_refusals doc
-edit_causes s (insert parent index new) = needs_page s (λ page. insert_refusals parent index new page.document)
-edit_causes s (remove id) = needs_page s (λ page. remove_refusals id page.document)
+    (nat_lt MAX_SIDE width || nat_lt MAX_SIDE height, ViewportRange) ∷ load_causes doc
+edit_causes s (insert parent index new) = needs_page s (λ page. insert_causes parent index new page.document)
+edit_causes s (remove id) = needs_page s (λ page. remove_causes id page.document)
 
 -- why a query is refused, whatever its assignment is
 abbrev pub query_causes : State → Query → Causes
@@ -71,8 +71,8 @@ with_document change page = record { document = change page.document; sheets = p
 abbrev pub state_after_edit : State → Edit → State
 state_after_edit s (load width height doc sheets) =
     Some (record { document = document doc; sheets = unwrap_or sheets []; viewport = record { width = width; height = height } })
-state_after_edit s (insert parent index new) = option_map (with_document (after_insert parent index new)) s
-state_after_edit s (remove id) = option_map (with_document (after_remove id)) s
+state_after_edit s (insert parent index new) = option_map (with_document (document_after_insert parent index new)) s
+state_after_edit s (remove id) = option_map (with_document (document_after_remove id)) s
 
 -- the id that the next new node gets
 abbrev pub next_id : State → ℕ
@@ -103,30 +103,28 @@ abbrev pub answer_by : Request → Option Cause → Answer
 answer_by q None = accepted q
 answer_by q (Some c) = refused c
 
--- how it is answered what a line asks for
+-- the answer to what a line asks for
 abbrev pub answer_to : State → Asked → Answer
 answer_to s nothing = silent
 answer_to s (broken c) = refused c
 answer_to s (request q) = answer_by q (refusal_of s q)
 
--- a line that is passed over, a refused one and a query leave the state as it was
-abbrev pub state_after : State → Answer → State
-state_after s silent = s
-state_after s (refused c) = s
-state_after s (accepted (edit e)) = state_after_edit s e
-state_after s (accepted (query q)) = s
+-- ---- logs
 
--- the state that a line leaves
-unfoldable pub next : State → List ℕ → State
-next s line = state_after s (answer_to s (asked_of_line line))
+-- the number of logs that a request begins which is carried out
+abbrev pub logs_of : Request → ℕ
+logs_of (edit e) = 1
+logs_of (query Dump) = 0
 
--- a request of this kind begins a new log: each edit in the grammar, also one that is refused afterwards
-abbrev pub marks : Request → Bool
-marks (edit e) = true
-marks (query Dump) = false
+-- the number of logs that is begun by what is refused: an edit in the grammar begins one
+abbrev pub logs_of_refused : Asked → ℕ
+logs_of_refused nothing = 0
+logs_of_refused (broken c) = 0
+logs_of_refused (request (edit e)) = 1
+logs_of_refused (request (query Dump)) = 0
 
--- what a line asks for begins a new log
-abbrev pub begins_log : Asked → Bool
-begins_log nothing = false
-begins_log (broken c) = false
-begins_log (request q) = marks q
+-- the most logs that are begun by what a line asks for
+abbrev pub most_logs : Asked → ℕ
+most_logs nothing = 0
+most_logs (broken c) = 0
+most_logs (request q) = max (logs_of q) (logs_of_refused (request q))

@@ -1,12 +1,16 @@
 //! What lines ask for, why requests are refused and what they leave, on small cases.
-ghost use Rattle.std.specs.Prelude.{◌≡◌, [], ◌∷◌, Some, None, true, false, codes};
-ghost use Rattle.std.specs.Str.{chars};
-ghost use Rattle.page_model.specs.Trees.{elem, characters, no_trees, tree};
-ghost use Rattle.page_model.specs.Document.{element, no_nodes};
-ghost use Rattle.page_model.specs.declared.cause.Cause.TheVariants.{BadJson, BadRequest, NotLoaded, NoNode, IsRoot, BadIndex, ViewportRange, NotBuilt};
+ghost use Rattle.std.specs.Prelude.{◌≡◌, ℕ, List, [], ◌∷◌, Some, None, true, false, codes};
+ghost use Rattle.std.specs.Str.{chars, is_utf8};
+ghost use Rattle.serde_json.specs.Read.{read};
+ghost use Rattle.page_model.specs.Trees.{Tree, elem, characters, no_trees, tree};
+ghost use Rattle.page_model.specs.Document.{element, text, node, no_nodes};
+ghost use Rattle.page_model.specs.declared.cause.Cause.TheVariants.{LineTooLong, NotElement, BadJson, BadRequest, NotLoaded, NoNode, IsRoot, BadIndex, ViewportRange, NotBuilt};
 ghost use Rattle.request_model.specs.declared.query.Query.TheVariants.{Dump};
-ghost use Rattle.request_model.specs.Requests.{load, insert, remove, edit, query, nothing, broken, request, asked_of};
-ghost use Rattle.request_model.specs.States.{refusal_of, answer_to, state_after, accepted, refused, state_after_edit, accepted_by, next_id, begins_log};
+ghost use Rattle.request_model.specs.Requests.{load, insert, remove, edit, query, nothing, broken, request, asked_of, asked_of_line, value_of, is_name_not_built, Edit};
+ghost use Rattle.request_model.specs.States.{silent, brings_tree, edit_causes, refusal_of, answer_to, accepted, refused, state_after_edit, accepted_by, next_id, logs_of, logs_of_refused, most_logs};
+ghost use Rattle.std.specs.List.{list_all, list_any};
+ghost use Rattle.stream_model.specs.Lines.{is_blank, is_too_long};
+ghost use Rattle.page_model.specs.Refusals.{first_of};
 ghost use Rattle.serde_json.specs.Data.{string, array, object, number, item, no_items, member, no_members, null, unsigned};
 
 /// Causes are asked in their order: what is not built before what is loaded is looked at, and a
@@ -35,6 +39,10 @@ pub fn examples_of_causes()
     ensures bad_index { refusal_of (state_after_edit None (load 1 1 (elem (codes "div") [] no_trees) None))
         (edit (insert 0 1 (elem (codes "div") [] no_trees)))
         ≡ Some BadIndex }
+    ensures later_child_not_built { refusal_of None (edit (load 1 1 (elem (codes "div") []
+        (tree (elem (codes "div") [] no_trees) (tree (elem (codes "p") [] no_trees) no_trees))) None))
+        ≡ Some NotBuilt }
+    ensures side_before_limits { (doc : Tree) → first_of (edit_causes None (load 10001 1 doc None)) ≡ Some ViewportRange }
 {}
 
 /// A request has exactly the members of its kind; a name that is known and not built is refused
@@ -85,6 +93,30 @@ pub fn examples_of_requests()
         (member (codes "height") (number (unsigned 2)) (member (codes "sheets") null
         (member (codes "width") (number (unsigned 1)) no_members)))))))
         ≡ broken BadRequest }
+    ensures names_not_built { list_all is_name_not_built
+        (codes "sheet" ∷ codes "rules" ∷ codes "match" ∷ codes "style" ∷ codes "resize" ∷ codes "move"
+        ∷ codes "set-attr" ∷ codes "drop-attr" ∷ codes "set-text" ∷ codes "counts" ∷ [])
+        ≡ true }
+    ensures names_built { list_any is_name_not_built
+        (codes "load" ∷ codes "insert" ∷ codes "remove" ∷ codes "dump" ∷ [])
+        ≡ false }
+    ensures insert_with_another { asked_of (Some (object (member (codes "a") null (member (codes "do") (string (codes "insert"))
+        (member (codes "index") (number (unsigned 2)) (member (codes "parent") (number (unsigned 1))
+        (member (codes "tree") (string (codes "x")) no_members)))))))
+        ≡ broken BadRequest }
+    ensures remove_with_another { asked_of (Some (object (member (codes "a") null (member (codes "do") (string (codes "remove"))
+        (member (codes "id") (number (unsigned 7)) no_members)))))
+        ≡ broken BadRequest }
+    ensures load_with_another { asked_of (Some (object (member (codes "a") null (member (codes "do") (string (codes "load"))
+        (member (codes "doc") (array (item (string (codes "a")) no_items))
+        (member (codes "height") (number (unsigned 2)) (member (codes "width") (number (unsigned 1)) no_members)))))))
+        ≡ broken BadRequest }
+    ensures loads_two_sheets { asked_of (Some (object (member (codes "do") (string (codes "load"))
+        (member (codes "doc") (array (item (string (codes "a")) no_items))
+        (member (codes "height") (number (unsigned 2))
+        (member (codes "sheets") (array (item (string (codes "s")) (item (string (codes "t")) no_items)))
+        (member (codes "width") (number (unsigned 1)) no_members)))))))
+        ≡ request (edit (load 1 2 (elem (chars (codes "a")) [] no_trees) (Some (chars (codes "s") ∷ chars (codes "t") ∷ [])))) }
 {}
 
 /// What lines leave: a load replaces all, its sheets included; a refused request and a query leave
@@ -106,22 +138,71 @@ pub fn examples_of_states()
     ensures remove_gives { accepted_by None (remove 5) ≡ record { first = 0; count = 0 } }
     ensures refused_remove { answer_to (state_after_edit None (load 3 4 (elem (codes "a") [] no_trees) None)) (request (edit (remove 0)))
         ≡ refused IsRoot }
-    ensures refused_leaves { state_after None (refused IsRoot) ≡ None }
-    ensures query_leaves { state_after (state_after_edit None (load 3 4 (elem (codes "a") [] no_trees) None)) (accepted (query Dump))
-        ≡ state_after_edit None (load 3 4 (elem (codes "a") [] no_trees) None) }
-    ensures removed { state_after
-        (state_after_edit (state_after_edit None (load 3 4 (elem (codes "a") [] no_trees) None))
-        (insert 0 0 (elem (codes "b") [] no_trees)))
-        (accepted (edit (remove 1)))
+    ensures blank_is_silent { answer_to None nothing ≡ silent }
+    ensures broken_is_refused { answer_to None (broken BadJson) ≡ refused BadJson }
+    ensures accepts { answer_to None (request (edit (load 1 1 (elem (codes "div") [] no_trees) None)))
+        ≡ accepted (edit (load 1 1 (elem (codes "div") [] no_trees) None)) }
+    ensures load_brings { brings_tree (load 1 1 (characters []) None) ≡ true }
+    ensures insert_brings { brings_tree (insert 0 0 (characters [])) ≡ true }
+    ensures remove_brings_none { brings_tree (remove 0) ≡ false }
+    ensures load_replaces { state_after_edit
+        (state_after_edit None (load 3 4 (elem (codes "a") [] (tree (characters []) no_trees)) (Some (codes "s" ∷ []))))
+        (load 5 6 (elem (codes "b") [] no_trees) None)
         ≡ Some (record {
-          document = record { root = element 0 (codes "a") [] no_nodes; next_id = 2 };
+          document = record { root = element 0 (codes "b") [] no_nodes; next_id = 1 };
           sheets = [];
+          viewport = record { width = 5; height = 6 };
+        }) }
+    ensures load_counts_anew { accepted_by (state_after_edit None (load 3 4 (elem (codes "a") [] no_trees) None))
+        (load 5 6 (elem (codes "b") [] no_trees) None)
+        ≡ record { first = 0; count = 1 } }
+    ensures inserted_between { state_after_edit
+        (state_after_edit None (load 3 4 (elem (codes "a") []
+        (tree (elem (codes "b") [] (tree (characters []) no_trees)) (tree (elem (codes "c") [] no_trees) no_trees)))
+        (Some (codes "s" ∷ []))))
+        (insert 0 1 (elem (codes "d") [] (tree (characters []) no_trees)))
+        ≡ Some (record {
+          document = record {
+            root = element 0 (codes "a") []
+                (node (element 1 (codes "b") [] (node (text 2 []) no_nodes))
+                (node (element 4 (codes "d") [] (node (text 5 []) no_nodes))
+                (node (element 3 (codes "c") [] no_nodes) no_nodes)));
+            next_id = 6;
+          };
+          sheets = codes "s" ∷ [];
           viewport = record { width = 3; height = 4 };
         }) }
-    ensures load_begins { begins_log (request (edit (load 1 1 (characters []) None))) ≡ true }
-    ensures insert_begins { begins_log (request (edit (insert 0 0 (characters [])))) ≡ true }
-    ensures remove_begins { begins_log (request (edit (remove 0))) ≡ true }
-    ensures dump_begins_none { begins_log (request (query Dump)) ≡ false }
-    ensures blank_begins_none { begins_log nothing ≡ false }
-    ensures broken_begins_none { begins_log (broken NotBuilt) ≡ false }
+    ensures removed_below { state_after_edit
+        (state_after_edit None (load 3 4 (elem (codes "a") []
+        (tree (elem (codes "b") [] (tree (characters []) no_trees)) (tree (elem (codes "c") [] no_trees) no_trees)))
+        (Some (codes "s" ∷ []))))
+        (remove 2)
+        ≡ Some (record {
+          document = record {
+            root = element 0 (codes "a") []
+                (node (element 1 (codes "b") [] no_nodes) (node (element 3 (codes "c") [] no_nodes) no_nodes));
+            next_id = 4;
+          };
+          sheets = codes "s" ∷ [];
+          viewport = record { width = 3; height = 4 };
+        }) }
+    ensures edit_begins { (e : Edit) → logs_of (edit e) ≡ 1 }
+    ensures dump_begins_none { logs_of (query Dump) ≡ 0 }
+    ensures refused_edit_begins { (e : Edit) → logs_of_refused (request (edit e)) ≡ 1 }
+    ensures refused_dump_begins_none { logs_of_refused (request (query Dump)) ≡ 0 }
+    ensures blank_begins_none { logs_of_refused nothing ≡ 0 }
+    ensures broken_begins_none { logs_of_refused (broken NotBuilt) ≡ 0 }
+    ensures most { (e : Edit) → most_logs (request (edit e)) ≡ 1 }
+{}
+
+/// A line is looked at by its length first, and then whether it is blank (RFC 8259 section 8.1).
+#[tactic(auto, unfolding(crate::specs::Requests::asked_of_line, crate::specs::Requests::value_of))]
+pub fn examples_of_asking()
+    ensures too_long { (line : List ℕ) → is_too_long line ≡ true → asked_of_line line ≡ broken LineTooLong }
+    ensures empty { asked_of_line [] ≡ nothing }
+    ensures blank { asked_of_line (32 ∷ 9 ∷ 13 ∷ []) ≡ nothing }
+    ensures neither { (line : List ℕ) → is_too_long line ≡ false → is_blank line ≡ false
+        → asked_of_line line ≡ asked_of (value_of line) }
+    ensures no_utf8 { (line : List ℕ) → is_utf8 line ≡ false → value_of line ≡ None }
+    ensures utf8 { (line : List ℕ) → is_utf8 line ≡ true → value_of line ≡ read line }
 {}

@@ -8,5 +8,7 @@ mod examples;
 mod query;
 
 pub use accepted::Accepted;
-pub use examples::{examples_of_causes, examples_of_requests, examples_of_states};
+pub use examples::{
+    examples_of_asking, examples_of_causes, examples_of_requests, examples_of_states,
+};
 pub use query::Query;

@@ -1,7 +1,7 @@
 //! The requests that change nothing.
 
 /// A request that changes nothing: it reads what is loaded.
-#[derive(Clone, Copy, Debug, Drop, PartialEq, Eq)]
+#[derive(Debug, Drop)]
 pub enum Query {
     /// A dump: the box of each element.
     Dump,

@@ -7,22 +7,22 @@ use Rattle.stream_model.specs.declared.limits.TheConstants.{MAX_LINE}
 abbrev pub newline : ℕ
 newline = 10
 
--- b stands at the front of the first line
+-- b before the first line, or as a line of its own where there is none
 abbrev pub onto : ℕ → List (List ℕ) → List (List ℕ)
 onto b [] = (b ∷ []) ∷ []
 onto b (line ∷ lines) = (b ∷ line) ∷ lines
 
--- cut at each newline; a rest of at least one byte is a line
+-- the lines of bytes: they are cut at each newline, and a rest of at least one byte is a line
 abbrev pub lines : List ℕ → List (List ℕ)
 lines [] = []
 lines (b ∷ bytes) = if b == newline then [] ∷ lines bytes else onto b (lines bytes)
 
--- no newline stands in these bytes
+-- none of the bytes is a newline
 abbrev pub IsUnbroken : List ℕ → Type 0
 IsUnbroken [] = Unit {0}
 IsUnbroken (b ∷ bytes) = (b == newline ≡ false) × IsUnbroken bytes
 
--- b stands at the front of the first line, if there is one
+-- b before the first line, where there is one
 abbrev pub onto_first : ℕ → List (List ℕ) → List (List ℕ)
 onto_first b [] = []
 onto_first b (line ∷ lines) = (b ∷ line) ∷ lines
@@ -36,7 +36,7 @@ whole_lines (b ∷ bytes) = if b == newline then [] ∷ whole_lines bytes else o
 abbrev pub is_space : ℕ → Bool
 is_space b = (b == 32) || ((b == 9) || (b == 13))
 
--- a line without anything in it: it is passed over, unless it is too long
+-- a line of spaces, tabs and carriage returns alone, or of no byte: it is passed over, unless it is too long
 abbrev pub is_blank : List ℕ → Bool
 is_blank line = list_all is_space line
 

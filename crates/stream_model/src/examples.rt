@@ -16,7 +16,8 @@ pub fn examples_of_lines()
     ensures newline_alone { lines (codes "\n") ≡ [] ∷ [] }
     ensures two_newlines { lines (codes "\n\n") ≡ [] ∷ [] ∷ [] }
     ensures empty_line_between { lines (codes "a\n\nb") ≡ codes "a" ∷ [] ∷ codes "b" ∷ [] }
-    ensures newline_is_10 { lines (9 ∷ 10 ∷ 11 ∷ 12 ∷ 13 ∷ []) ≡ (9 ∷ []) ∷ (11 ∷ 12 ∷ 13 ∷ []) ∷ [] }
+    ensures newline_is_10 { lines (9 ∷ 10 ∷ 11 ∷ 12 ∷ 13 ∷ [])
+        ≡ (9 ∷ []) ∷ (11 ∷ 12 ∷ 13 ∷ []) ∷ [] }
 {}
 
 /// The whole lines are those that a newline ends.
@@ -66,13 +67,15 @@ pub fn examples_of_counts()
     ensures grew_more { Grew 2 3 6 → ⊥ }
     ensures stood { Grew 2 0 2 }
     ensures grew_to_the_last { Grew 18446744073709551613 9 18446744073709551615 }
+    ensures beyond_the_last { Grew 18446744073709551620 1 18446744073709551620 }
     ensures grew_past_the_last { Grew 18446744073709551613 9 18446744073709551622 → ⊥ }
 {}
 
 /// A stream that tells its bytes goes on telling them, and one that does not, does not begin to.
 pub fn examples_of_telling()
     ensures never_told { FromTo None None (λ old new. ⊥) }
-    ensures told { FromTo (Some (codes "a")) (Some (codes "b")) (λ old new. (old ≡ codes "a") × (new ≡ codes "b")) }
+    ensures told { FromTo (Some (codes "a")) (Some (codes "b"))
+        (λ old new. (old ≡ codes "a") × (new ≡ codes "b")) }
     ensures told_wrong { FromTo (Some (codes "a")) (Some (codes "b")) (λ old new. new ≡ old) → ⊥ }
     ensures begins { FromTo None (Some []) (λ old new. Unit {0}) → ⊥ }
     ensures stops { FromTo (Some []) None (λ old new. Unit {0}) → ⊥ }
@@ -95,8 +98,10 @@ pub fn examples_of_bytes()
 pub fn examples_of_events()
     ensures no_log { events [] ≡ [] }
     ensures empty_log { events ([] ∷ []) ≡ mark ∷ [] }
-    ensures pairs_in_order { events (((Match, 1) ∷ (Style, 1) ∷ (Match, 2) ∷ []) ∷ []) ≡ mark ∷ pair Match 1 ∷ pair Style 1 ∷ pair Match 2 ∷ [] }
-    ensures two_logs { events (((Size, 0) ∷ []) ∷ ((Place, 7) ∷ []) ∷ []) ≡ mark ∷ pair Size 0 ∷ mark ∷ pair Place 7 ∷ [] }
+    ensures pairs_in_order { events (((Match, 1) ∷ (Style, 1) ∷ (Match, 2) ∷ []) ∷ [])
+        ≡ mark ∷ pair Match 1 ∷ pair Style 1 ∷ pair Match 2 ∷ [] }
+    ensures two_logs { events (((Size, 0) ∷ []) ∷ ((Place, 7) ∷ []) ∷ [])
+        ≡ mark ∷ pair Size 0 ∷ mark ∷ pair Place 7 ∷ [] }
 {}
 
 /// What is counted are the pairs of a kind since the last mark, or all of them where there is none.
@@ -104,23 +109,33 @@ pub fn examples_of_counted_work()
     ensures of_nothing { count_since_mark Match [] ≡ 0 }
     ensures no_mark { count_since_mark Match (pair Match 1 ∷ pair Style 1 ∷ pair Match 2 ∷ []) ≡ 2 }
     ensures before_a_mark { count_since_mark Size (pair Size 1 ∷ mark ∷ []) ≡ 0 }
-    ensures after_a_mark { count_since_mark Size (pair Size 1 ∷ mark ∷ pair Size 2 ∷ pair Size 3 ∷ pair Size 4 ∷ []) ≡ 3 }
-    ensures after_two_marks { count_since_mark Place (mark ∷ pair Place 1 ∷ pair Place 2 ∷ mark ∷ pair Place 3 ∷ []) ≡ 1 }
-    ensures same_element_twice { count_since_mark Measure (mark ∷ pair Measure 1 ∷ pair Measure 1 ∷ []) ≡ 2 }
-    ensures matches { count_since_mark Match (pair Match 1 ∷ pair Style 1 ∷ pair Measure 1 ∷ pair Size 1 ∷ pair Place 1 ∷ []) ≡ 1 }
-    ensures styles { count_since_mark Style (pair Match 1 ∷ pair Style 1 ∷ pair Measure 1 ∷ pair Size 1 ∷ pair Place 1 ∷ []) ≡ 1 }
-    ensures measures { count_since_mark Measure (pair Match 1 ∷ pair Style 1 ∷ pair Measure 1 ∷ pair Size 1 ∷ pair Place 1 ∷ []) ≡ 1 }
-    ensures sizes { count_since_mark Size (pair Match 1 ∷ pair Style 1 ∷ pair Measure 1 ∷ pair Size 1 ∷ pair Place 1 ∷ []) ≡ 1 }
-    ensures places { count_since_mark Place (pair Match 1 ∷ pair Style 1 ∷ pair Measure 1 ∷ pair Size 1 ∷ pair Place 1 ∷ []) ≡ 1 }
+    ensures after_a_mark { count_since_mark Size
+        (pair Size 1 ∷ mark ∷ pair Size 2 ∷ pair Size 3 ∷ pair Size 4 ∷ []) ≡ 3 }
+    ensures after_two_marks { count_since_mark Place
+        (mark ∷ pair Place 1 ∷ pair Place 2 ∷ mark ∷ pair Place 3 ∷ []) ≡ 1 }
+    ensures same_element_twice { count_since_mark Measure
+        (mark ∷ pair Measure 1 ∷ pair Measure 1 ∷ []) ≡ 2 }
+    ensures matches { count_since_mark Match
+        (pair Match 1 ∷ pair Style 1 ∷ pair Measure 1 ∷ pair Size 1 ∷ pair Place 1 ∷ []) ≡ 1 }
+    ensures styles { count_since_mark Style
+        (pair Match 1 ∷ pair Style 1 ∷ pair Measure 1 ∷ pair Size 1 ∷ pair Place 1 ∷ []) ≡ 1 }
+    ensures measures { count_since_mark Measure
+        (pair Match 1 ∷ pair Style 1 ∷ pair Measure 1 ∷ pair Size 1 ∷ pair Place 1 ∷ []) ≡ 1 }
+    ensures sizes { count_since_mark Size
+        (pair Match 1 ∷ pair Style 1 ∷ pair Measure 1 ∷ pair Size 1 ∷ pair Place 1 ∷ []) ≡ 1 }
+    ensures places { count_since_mark Place
+        (pair Match 1 ∷ pair Style 1 ∷ pair Measure 1 ∷ pair Size 1 ∷ pair Place 1 ∷ []) ≡ 1 }
 {}
 
-/// Pairs are distinct where the kind or the element is another.
+/// Pairs are distinct where they differ in the kind or in the element.
 pub fn examples_of_distinct_pairs()
     ensures none { AreDistinct {X = Kind × ℕ} [] }
     ensures different { AreDistinct {X = Kind × ℕ} ((Match, 1) ∷ (Style, 1) ∷ (Match, 2) ∷ []) }
     ensures twice { AreDistinct {X = Kind × ℕ} ((Match, 1) ∷ (Match, 1) ∷ []) → ⊥ }
-    ensures twice_apart { AreDistinct {X = Kind × ℕ} ((Style, 4) ∷ (Match, 1) ∷ (Style, 4) ∷ []) → ⊥ }
-    ensures twice_at_the_end { AreDistinct {X = Kind × ℕ} ((Size, 0) ∷ (Place, 2) ∷ (Place, 2) ∷ []) → ⊥ }
+    ensures twice_apart { AreDistinct {X = Kind × ℕ}
+        ((Style, 4) ∷ (Match, 1) ∷ (Style, 4) ∷ []) → ⊥ }
+    ensures twice_at_the_end { AreDistinct {X = Kind × ℕ}
+        ((Size, 0) ∷ (Place, 2) ∷ (Place, 2) ∷ []) → ⊥ }
     ensures first { IsAmong {X = Kind × ℕ} (Match, 1) ((Match, 1) ∷ (Style, 1) ∷ []) }
     ensures last { IsAmong {X = Kind × ℕ} (Style, 1) ((Match, 1) ∷ (Style, 1) ∷ []) }
     ensures other_kind { IsAmong {X = Kind × ℕ} (Size, 1) ((Match, 1) ∷ (Style, 1) ∷ []) → ⊥ }

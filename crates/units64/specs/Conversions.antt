@@ -1,10 +1,11 @@
--- Units and millionths of a pixel: a pixel is 64 units, so a unit is 15,625 millionths.
-use Rattle.std.specs.Prelude.{ℤ, pos, ◌*ℤ◌, int_div}
+-- Units and millionths of a pixel.
+use Rattle.std.specs.Prelude.{ℤ, ◌*ℤ◌, int_div}
+use Rattle.units64.specs.declared.constants.TheConstants.{UNITS_PER_PIXEL, MILLIONTHS_PER_PIXEL, MILLIONTHS_PER_UNIT}
 
--- so many units in millionths of a pixel, exactly
+-- the millionths of a pixel that a number of units is, exactly
 abbrev pub millionths_of : ℤ → ℤ
-millionths_of units = units *ℤ pos 15625
+millionths_of units = units *ℤ MILLIONTHS_PER_UNIT
 
--- so many millionths of a pixel in units, cut towards zero
+-- the units that a number of millionths of a pixel is, truncated towards zero
 abbrev pub units_of : ℤ → ℤ
-units_of millionths = int_div (millionths *ℤ pos 64) (pos 1000000)
+units_of millionths = int_div (millionths *ℤ UNITS_PER_PIXEL) MILLIONTHS_PER_PIXEL

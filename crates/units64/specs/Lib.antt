@@ -1,3 +1,2 @@
 pub mod Conversions
 pub mod Limits
-pub mod Millionths

@@ -1,68 +1,63 @@
+//! Sums, differences and products, exact and then clamped.
 ghost use Rattle.std.specs.Prelude.{◌≡◌, ◌+ℤ◌, ◌-ℤ◌, ◌*ℤ◌, ◌<ℤ◌, pos, int_div};
 ghost use Rattle.units64.specs.Conversions.{units_of};
-ghost use Rattle.units64.specs.Limits.{limited};
-ghost use Rattle.units64.specs.Millionths.{limited_millionths};
+ghost use Rattle.units64.specs.Limits.{clamped_units, clamped_millionths};
 
-use super::fixed6::Fixed6;
-use super::units::Units;
+use crate::constants::{MILLIONTHS_PER_PIXEL, UNITS_PER_PIXEL};
+use crate::fixed6::Fixed6;
+use crate::units::Units;
 
-/// How many units a pixel has.
-const UNITS_PER_PIXEL: i64 = 64;
-
-/// How many millionths a whole has.
-const MILLIONTHS_PER_ONE: i64 = 1_000_000;
-
-/// The sum of two lengths.
+/// Adds two lengths.
 pub fn add(a: Units, b: Units) -> Units
-    ensures { result ≡ limited (a +ℤ b) }
+    ensures { result ≡ clamped_units (a +ℤ b) }
 {
     Units::new(sum(a.get(), b.get()))
 }
 
-/// The difference of two lengths: the first without the second.
+/// Subtracts `b` from `a`.
 pub fn sub(a: Units, b: Units) -> Units
-    ensures { result ≡ limited (a -ℤ b) }
+    ensures { result ≡ clamped_units (a -ℤ b) }
 {
     Units::new(difference(a.get(), b.get()))
 }
 
-/// A number times `num / den`: the exact product, divided and cut towards zero.
+/// Multiplies `a` by `num / den`: the exact product, divided and truncated towards zero.
 pub fn mul_ratio(a: Fixed6, num: i64, den: i64) -> Fixed6
     requires { pos 0 <ℤ den }
-    ensures { result ≡ limited_millionths (int_div (a *ℤ num) den) }
+    ensures { result ≡ clamped_millionths (int_div (a *ℤ num) den) }
 {
     Fixed6::new(quotient(product(a.get(), num), den))
 }
 
-/// A number of pixels as a length, cut towards zero.
+/// Makes a length of `a` pixels, truncated towards zero to units.
 pub fn to_units(a: Fixed6) -> Units
-    ensures { result ≡ limited (units_of a) }
+    ensures { result ≡ clamped_units (units_of a) }
 {
-    Units::new(a.get() * UNITS_PER_PIXEL / MILLIONTHS_PER_ONE)
+    Units::new(a.get() * UNITS_PER_PIXEL / MILLIONTHS_PER_PIXEL)
 }
 
-/// The exact sum, which always fits.
+/// Returns the exact sum, which always fits.
 fn sum(a: i32, b: i32) -> i64
     ensures { result ≡ a +ℤ b }
 {
     a as i64 + b as i64
 }
 
-/// The exact difference, which always fits.
+/// Returns the exact difference, which always fits.
 fn difference(a: i32, b: i32) -> i64
     ensures { result ≡ a -ℤ b }
 {
     a as i64 - b as i64
 }
 
-/// The exact product, which always fits.
+/// Returns the exact product, which always fits.
 pub(crate) fn product(a: i64, b: i64) -> i128
     ensures { result ≡ a *ℤ b }
 {
     a as i128 * b as i128
 }
 
-/// The quotient, cut towards zero.
+/// Returns the quotient, truncated towards zero.
 fn quotient(n: i128, den: i64) -> i128
     requires { pos 0 <ℤ den }
     ensures { result ≡ int_div n den }
@@ -72,9 +67,9 @@ fn quotient(n: i128, den: i64) -> i128
 
 #[cfg(test)]
 mod tests {
-    use super::super::fixed6::Fixed6;
-    use super::super::units::Units;
     use super::{add, mul_ratio, sub, to_units};
+    use crate::fixed6::Fixed6;
+    use crate::units::Units;
     use std::test::Fail;
 
     #[test]
@@ -106,7 +101,7 @@ mod tests {
     }
 
     #[test]
-    fn shares(rt: HostRuntime) -> Result<(), Fail> {
+    fn products(rt: HostRuntime) -> Result<(), Fail> {
         let most = 1_000_000_000_000_000;
         assert_eq!(rt; mul_ratio(Fixed6::new(1_500_000), 2, 3).get(), 1_000_000);
         assert_eq!(rt; mul_ratio(Fixed6::new(-7), 1, 2).get(), -3);

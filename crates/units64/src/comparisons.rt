@@ -1,16 +1,15 @@
+//! Exact comparisons.
 ghost use Rattle.std.specs.Prelude.{◌≡◌, ◌*ℤ◌, ◌≤ℤ◌, pos};
 ghost use Rattle.std.specs.Ordering.{int_cmp};
 ghost use Rattle.units64.specs.Conversions.{millionths_of};
 
-use super::arithmetic::product;
-use super::fixed6::Fixed6;
-use super::units::Units;
+use crate::arithmetic::product;
+use crate::constants::MILLIONTHS_PER_UNIT;
+use crate::fixed6::Fixed6;
+use crate::units::Units;
 use std::cmp::Ordering;
 
-/// How many millionths of a pixel a unit is.
-const MILLIONTHS_PER_UNIT: i64 = 15_625;
-
-/// Compares a length with a number of pixels, exactly.
+/// Compares `a` with `b` pixels, exactly.
 pub fn cmp_length(a: Units, b: Fixed6) -> Ordering
     ensures { result ≡ int_cmp (millionths_of a) b }
 {
@@ -18,7 +17,7 @@ pub fn cmp_length(a: Units, b: Fixed6) -> Ordering
     millionths.cmp(&b.get())
 }
 
-/// Compares the ratio `w / h` with `a / b`, exactly and by products alone: any part may be 0.
+/// Compares the ratio `w / h` with `a / b`, exactly and by products alone: any of the four may be 0.
 pub fn cmp_ratio(w: Units, h: Units, a: Fixed6, b: Fixed6) -> Ordering
     requires width { pos 0 ≤ℤ w }
     requires height { pos 0 ≤ℤ h }
@@ -33,9 +32,9 @@ pub fn cmp_ratio(w: Units, h: Units, a: Fixed6, b: Fixed6) -> Ordering
 
 #[cfg(test)]
 mod tests {
-    use super::super::fixed6::Fixed6;
-    use super::super::units::Units;
     use super::{cmp_length, cmp_ratio};
+    use crate::fixed6::Fixed6;
+    use crate::units::Units;
     use std::cmp::Ordering;
     use std::test::Fail;
 

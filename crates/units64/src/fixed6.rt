@@ -1,10 +1,9 @@
+//! Numbers in millionths.
 ghost use Rattle.std.specs.Prelude.{◌≡◌};
-ghost use Rattle.units64.specs.Millionths.{limited_millionths};
+ghost use Rattle.units64.specs.Limits.{clamped_millionths};
 
+use crate::constants::MAX_MILLIONTHS;
 use std::marker::Model;
-
-/// The greatest number, in millionths; the least is its negative.
-const MAX_MILLIONTHS: i128 = 1_000_000_000_000_000;
 
 /// A number in millionths, from -10^15 to 10^15 of them.
 #[derive(Clone, Copy, Debug, PartialEq, Eq, PartialOrd, Ord)]
@@ -14,7 +13,7 @@ pub struct Fixed6 {
 
 impl Model for Fixed6 {
     ghost use Rattle.std.specs.Prelude.{ℤ};
-    ghost use Rattle.units64.specs.Millionths.{FitsFixed6};
+    ghost use Rattle.units64.specs.Limits.{FitsFixed6};
 
     ghost Value = { ℤ };
 
@@ -26,15 +25,15 @@ impl Model for Fixed6 {
 }
 
 impl Fixed6 {
-    /// So many millionths, limited to what a number may be.
+    /// Makes a number of `n` millionths, clamped to what a number may be.
     pub fn new(n: i128) -> Fixed6
-        ensures { result ≡ limited_millionths n }
+        ensures { result ≡ clamped_millionths n }
     {
         let millionths = n.max(-MAX_MILLIONTHS).min(MAX_MILLIONTHS) as i64;
         Fixed6 { millionths }
     }
 
-    /// How many millionths this is.
+    /// Returns the number of millionths.
     pub fn get(self) -> i64
         ensures { result ≡ self }
     {

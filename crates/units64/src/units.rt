@@ -1,10 +1,9 @@
+//! Lengths in units of 1/64 pixel.
 ghost use Rattle.std.specs.Prelude.{◌≡◌};
-ghost use Rattle.units64.specs.Limits.{limited};
+ghost use Rattle.units64.specs.Limits.{clamped_units};
 
+use crate::constants::MAX_UNITS;
 use std::marker::Model;
-
-/// The greatest length, in units; the least is its negative.
-const MAX_UNITS: i64 = 1 << 30;
 
 /// A length in units of 1/64 pixel, from -2^30 to 2^30.
 #[derive(Clone, Copy, Debug, PartialEq, Eq, PartialOrd, Ord)]
@@ -13,28 +12,28 @@ pub struct Units {
 }
 
 impl Model for Units {
-    ghost use Rattle.std.specs.Prelude.{ℤ, ◌≤ℤ◌};
-    ghost use Rattle.units64.specs.Limits.{least, greatest};
+    ghost use Rattle.std.specs.Prelude.{ℤ};
+    ghost use Rattle.units64.specs.Limits.{FitsUnits};
 
     ghost Value = { ℤ };
 
     ghost view = { λ u. u.units };
 
-    ghost invariant = { λ u. (least ≤ℤ u.units) × (u.units ≤ℤ greatest) };
+    ghost invariant = { λ u. FitsUnits u.units };
 
     ghost inverse = { λ z. record { units = z } };
 }
 
 impl Units {
-    /// So many units, limited to what a length may be.
+    /// Makes a length of `n` units, clamped to what a length may be.
     pub fn new(n: i64) -> Units
-        ensures { result ≡ limited n }
+        ensures { result ≡ clamped_units n }
     {
         let units = n.max(-MAX_UNITS).min(MAX_UNITS) as i32;
         Units { units }
     }
 
-    /// How many units this is.
+    /// Returns the number of units.
     pub fn get(self) -> i32
         ensures { result ≡ self }
     {

@@ -1,5 +1,5 @@
 use Rattle.std.proofs.Common.{◌≡◌, ◌+◌, length, drop}
-use Rattle.css_model.specs.Pieces.{comment_inside}
+use Rattle.css_model.specs.inner.Pieces.{comment_inside}
 use Rattle.css_tokens.proofs.comments.inside_length.Given as goal
 
 abbrev pub invariant-loop-i : goal.invariant-loop-i

@@ -1,7 +1,7 @@
 use Rattle.std.proofs.Common.{◌≡◌, ◌∙◌, ap, sym, subst, ◌∷◌, ◌-◌, length, take, drop, drop-cons, length-drop, arith}
 use Rattle.std.proofs.lemmas.List.{take_all}
 use Rattle.std.specs.Prelude.{IfOk}
-use Rattle.css_tokens.specs.Found.{IsFound, IsFront}
+use Rattle.css_tokens.specs.inner.Found.{IsFound, IsFront}
 use Rattle.css_tokens.proofs.FoundPieces.{string-first}
 use Rattle.css_tokens.proofs.first_piece.first_piece.Goals as goal
 

@@ -2,13 +2,13 @@ use Rattle.std.proofs.Common.{rules, arith, ◌≡◌, ◌<◌, ◌^◌, ◌+◌
 use Rattle.std.specs.List.{list_all}
 use Rattle.css_model.specs.Classes.{is_digit}
 use Rattle.css_model.specs.Numerals.{numeral_text}
-use Rattle.css_model.specs.Fronts.{numeral_in}
+use Rattle.css_model.specs.inner.Fronts.{numeral_in}
 use Rattle.css_model.proofs.FirstNumbers.{Numbers, numbers-in}
-use Rattle.css_tokens.specs.Views.{numeral_view}
+use Rattle.css_tokens.specs.inner.Numerals.{numeral_view}
 use Rattle.css_tokens.proofs.numbers.read_number.Goals as goal
 
-pub number-requires-clause-whole : goal.number-requires-clause-whole
-number-requires-clause-whole c = ap (λ w. list_all is_digit w.whole) c.read_numeral-numeral.ensures ∙ (numbers-in c.args.cs.now c.requires).is.whole
+pub number-requires-clause-integer : goal.number-requires-clause-integer
+number-requires-clause-integer c = ap (λ w. list_all is_digit w.integer) c.read_numeral-numeral.ensures ∙ (numbers-in c.args.cs.now c.requires).is.integer
 
 pub number-requires-clause-fraction : goal.number-requires-clause-fraction
 number-requires-clause-fraction c = ap (λ w. list_all is_digit w.fraction) c.read_numeral-numeral.ensures ∙ (numbers-in c.args.cs.now c.requires).is.fraction

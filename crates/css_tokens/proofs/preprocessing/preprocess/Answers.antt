@@ -2,14 +2,14 @@ use Rattle.std.proofs.Common.{◌∙◌, ap, sym, ◌++◌, map-id}
 use Rattle.std.proofs.lemmas.Iterator.{YieldsList-from_chars}
 use Rattle.std.proofs.lemmas.Iterator.Consumers.{YieldsList-end}
 use Rattle.css_model.specs.Preprocessing.{preprocessed}
-use Rattle.css_tokens.specs.Replacing.{kept_behind}
+use Rattle.css_tokens.specs.inner.Replacing.{kept_after}
 use Rattle.css_tokens.proofs.PreprocessedFronts.{preprocessed-push, last-push}
 use Rattle.css_tokens.proofs.preprocessing.preprocess.Goals as goal
 
 pub loop-c-preserved : goal.loop-c-preserved
 loop-c-preserved c = record {
-  kept = c.in_ok-keep.ensures ∙ (ap (λ cs. cs ++ kept_behind c.loop-c.before c.in-Some.c) c.loop-c.invariant.kept
-      ∙ (ap (λ b. preprocessed c.loop-c.yielded ++ kept_behind b c.in-Some.c) c.loop-c.invariant.before ∙ sym (preprocessed-push c.loop-c.yielded c.in-Some.c)));
+  kept = c.in_ok-keep.ensures ∙ (ap (λ cs. cs ++ kept_after c.loop-c.before c.in-Some.c) c.loop-c.invariant.kept
+      ∙ (ap (λ b. preprocessed c.loop-c.yielded ++ kept_after b c.in-Some.c) c.loop-c.invariant.before ∙ sym (preprocessed-push c.loop-c.yielded c.in-Some.c)));
   before = sym (last-push 0 c.loop-c.yielded c.in-Some.c);
 }
 

@@ -1,8 +1,7 @@
 -- An attribute more is one more in front of what is left.
 use Rattle.std.proofs.Common.{rules, ◌≡◌, [], ◌∷◌, ◌++◌, sym, ◌∙◌, ap, string_bytes, Some}
-use Rattle.page_model.specs.Jsonml.{attributes_of}
+use Rattle.page_model.specs.Jsonml.{attribute_of, attributes_of}
 use Rattle.serde_json.specs.View.{view, members_view}
-use Rattle.jsonml_reader.specs.Reading.{attribute_of}
 use Rattle.jsonml_reader.proofs.AttributesOf.{attributes_then, attributes_then-member}
 use Rattle.jsonml_reader.proofs.attributes.read_attributes.Goals as goal
 

@@ -1,5 +1,5 @@
 use Rattle.std.proofs.Common.{rules}
-use Rattle.relayout_cli.specs.Flat.{frame_view}
+use Rattle.relayout_cli.specs.inner.Frames.{frame_view}
 use Rattle.relayout_cli.proofs.WalkLemmas.{AllReach-kids, OnOk-node}
 use Rattle.relayout_cli.proofs.dump.+walk.Goals as goal
 

@@ -1,8 +1,8 @@
 use Rattle.std.proofs.Common.{◌≡◌, ◌+◌, ◌*◌, ◌++◌, string_bytes}
 use Rattle.std.specs.Prelude.{pos}
 use Rattle.reply_model.specs.DumpText.{all_box_lines}
-use Rattle.relayout_cli.specs.Walk.{nodes_at, AllReach}
-use Rattle.relayout_cli.specs.Flat.{all_flat}
+use Rattle.relayout_cli.specs.inner.Walk.{nodes_at, AllReach}
+use Rattle.relayout_cli.specs.inner.Flat.{all_flat}
 use Rattle.relayout_cli.proofs.dump.+walk.Given as goal
 
 abbrev pub decreases-push_boxes : goal.decreases-push_boxes

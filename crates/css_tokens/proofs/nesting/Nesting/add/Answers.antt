@@ -1,6 +1,6 @@
 -- A component more.
 use Rattle.std.proofs.Common.{◌∙◌, ap}
-use Rattle.css_tokens.specs.Nesting.{components_view}
+use Rattle.css_tokens.specs.Nested.{components_view}
 use Rattle.css_tokens.proofs.OpenBrackets.{view-push}
 use Rattle.css_tokens.proofs.nesting.Nesting.add.Goals as goal
 

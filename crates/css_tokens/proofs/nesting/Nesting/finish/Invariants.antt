@@ -1,6 +1,6 @@
 -- The components stay the same as brackets end with the tokens.
 use Rattle.std.proofs.Common.{◌≡◌, length, []}
-use Rattle.css_tokens.specs.OpenBrackets.{with_rest, IsWithin}
+use Rattle.css_tokens.specs.inner.OpenBrackets.{with_rest, IsWithin}
 use Rattle.css_tokens.proofs.nesting.Nesting.finish.Given as goal
 
 abbrev pub invariant-loop-self : goal.invariant-loop-self

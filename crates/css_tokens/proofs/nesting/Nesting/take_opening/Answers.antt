@@ -2,12 +2,11 @@
 use Rattle.std.proofs.Common.{◌∙◌, arith}
 use Rattle.css_tokens.specs.declared.nesting.OpenBracket.{OpenBracket}
 use Rattle.css_tokens.specs.declared.nesting.Nesting.{Nesting}
-use Rattle.css_tokens.specs.Views.{token_view}
 use Rattle.css_tokens.proofs.OpenBrackets.{rest-opening, within-opening, depths-limit}
 use Rattle.css_tokens.proofs.nesting.Nesting.take_opening.Goals as goal
 
 pub returns-then-len-ge-MAX_NESTING : goal.returns-then-len-ge-MAX_NESTING
-returns-then-len-ge-MAX_NESTING c = λ rest. depths-limit c.args.self.now (token_view c.args.head) rest c.requires.opens (omega (arith, c.len.ensures, c.if-len-ge-MAX_NESTING.true))
+returns-then-len-ge-MAX_NESTING c = λ rest. depths-limit c.args.self.now c.args.head rest c.requires.opens (omega (arith, c.len.ensures, c.if-len-ge-MAX_NESTING.true))
 
 pub returns : goal.returns
 returns c =

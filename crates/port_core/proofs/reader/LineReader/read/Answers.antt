@@ -1,6 +1,6 @@
 use Rattle.std.proofs.Common.{◌≡◌, None, ap, ◌∙◌, rules}
 use Rattle.port_core.specs.Reader.{Reader}
-use Rattle.port_core.proofs.ReadLemmas.{Reads-line, Reads-last}
+use Rattle.port_core.proofs.ReadsLemmas.{Reads-line, Reads-last}
 use Rattle.port_core.proofs.reader.LineReader.read.Goals as goal
 
 pub returns-in-Line : goal.returns-in-Line

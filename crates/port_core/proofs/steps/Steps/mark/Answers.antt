@@ -1,5 +1,5 @@
-use Rattle.port_core.proofs.LedgerLemmas.{CountsSinceMark-mark}
-use Rattle.port_core.specs.Past.{events_of}
+use Rattle.port_core.proofs.CountsLemmas.{CountsSinceMark-mark}
+use Rattle.port_core.specs.inner.Past.{events_of}
 use Rattle.port_core.proofs.steps.Steps.mark.Goals as goal
 
 pub invariant_of-self : goal.invariant_of-self

@@ -4,4 +4,4 @@ use Rattle.port_core.proofs.text.Text.as_str.Goals as goal
 
 pub returns-clause-bytes : goal.returns-clause-bytes
 returns-clause-bytes c =
-    rw (← c.self.view_is, ← c.as_str.ensures.value) (sym (encodes-chars c.as_str.result.now c.as_str.utf8))
+    rw (← c.self.view_is, ← c.as_str.ensures) (sym (encodes-chars c.as_str.result.now c.as_str.utf8))

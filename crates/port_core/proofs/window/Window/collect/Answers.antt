@@ -1,5 +1,5 @@
 use Rattle.std.proofs.Common.{◌∙◌}
-use Rattle.port_core.proofs.CollectLemmas.{Collecting-part, Collecting-more, CollectsLine-cut, Halts-rests}
+use Rattle.port_core.proofs.CollectsLemmas.{Collecting-part, Collecting-more, CollectsLine-cut, Halts-rests}
 use Rattle.port_core.proofs.StreamLemmas.{CountsFault-after}
 use Rattle.port_core.proofs.window.Window.collect.Goals as goal
 

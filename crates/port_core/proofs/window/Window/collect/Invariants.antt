@@ -1,6 +1,6 @@
 use Rattle.std.proofs.Common.{◌≡◌, ◌-◌}
 use Rattle.stream_model.specs.declared.limits.TheConstants.{MAX_TAKEN}
-use Rattle.port_core.specs.Window.{Collecting}
+use Rattle.port_core.specs.inner.Window.{Collecting}
 use Rattle.port_core.proofs.window.Window.collect.Given as goal
 
 abbrev pub invariant-loop-self : goal.invariant-loop-self

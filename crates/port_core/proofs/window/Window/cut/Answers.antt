@@ -1,5 +1,5 @@
 use Rattle.std.proofs.Common.{take, refl}
-use Rattle.port_core.proofs.LineLemmas.{newline_parts, IsUnbroken-nowhere}
+use Rattle.port_core.proofs.LinesLemmas.{newline_parts, IsUnbroken-nowhere}
 use Rattle.port_core.proofs.window.Window.cut.Goals as goal
 
 pub returns-in-Some : goal.returns-in-Some

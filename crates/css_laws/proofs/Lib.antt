@@ -1,0 +1,10 @@
+pub mod SingleTypes
+pub mod Meets
+pub mod Branches
+pub mod NamesAlike
+pub mod NumbersAlike
+pub mod StringsAlike
+pub mod Alone
+pub mod OnePiece
+pub mod OneTokenList
+pub mod OneNesting

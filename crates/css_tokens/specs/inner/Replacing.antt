@@ -1,0 +1,13 @@
+-- What becomes of the code points of a text, one after another.
+use Rattle.std.specs.Prelude.{ℕ, ◌==◌, ◌&&◌, [], ◌∷◌, if◌then◌else◌}
+use Rattle.css_model.specs.Classes.{Text, is_newline}
+use Rattle.css_model.specs.Preprocessing.{carriage_return, replaced}
+
+-- what is kept of a code point after this one
+abbrev pub kept_after : ℕ → ℕ → Text
+kept_after before c = if (before == carriage_return) && is_newline c then [] else replaced c ∷ []
+
+-- the last code point of a text, or the one before it
+abbrev pub last_after : ℕ → Text → ℕ
+last_after before [] = before
+last_after before (c ∷ cs) = last_after c cs

@@ -1,0 +1,3 @@
+pub mod FindsAll
+pub mod FlatAssignment
+pub mod Holds

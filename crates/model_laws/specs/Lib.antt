@@ -1,5 +1,0 @@
-pub mod Cuts
-pub mod Counting
-pub mod Numbering
-pub mod Children
-pub mod Bounds

@@ -1,0 +1,190 @@
+-- How what a line asks for is answered.
+use Rattle.std.proofs.Common.{◌≡◌, ◌∙◌, sym, ap, subst, refl, ℕ, zero, suc, List, [], ◌∷◌, ◌++◌, Bool, true, false, not, inl, inr, Option, Some, None, Result, Ok, Err, OnOk, is_none}
+use Rattle.std.proofs.lemmas.Bool.{false≢true}
+use Rattle.stream_model.specs.Ledger.{Log}
+use Rattle.page_model.specs.Pages.{State}
+use Rattle.page_model.specs.Trees.{Tree, elem, characters, is_elem}
+use Rattle.page_model.specs.Refusals.{Causes, first_of, cause_of, IsFirstCause, IsRefusedBy}
+use Rattle.page_model.specs.declared.cause.Cause.{Cause}
+use Rattle.page_model.specs.declared.cause.Cause.TheVariants.{NotBuilt, NotLoaded}
+use Rattle.page_model.specs.declared.refusal.Refusal.{Refusal}
+use Rattle.request_model.specs.declared.query.Query.{Query}
+use Rattle.request_model.specs.declared.query.Query.TheVariants.{Dump}
+use Rattle.request_model.specs.declared.accepted.Accepted.{Accepted}
+use Rattle.request_model.specs.Requests.{Edit, load, insert, remove, Request, edit, query, Asked, nothing, broken, request}
+use Rattle.request_model.specs.States.{Answer, silent, refused, accepted, answer_to, answer_by, refusal_of, form_causes, request_causes, edit_causes, state_after_edit, accepted_by, brings_tree, most_logs, logs_of_refused, is_plain}
+use Rattle.layout_model.specs.Setting.{Setting}
+use Rattle.reply_model.specs.Spelling.{error_line}
+use Rattle.reply_model.specs.Replies.{Course, IsTurn, IsAnswered, IsQueryReply, AreLogs, edit_text}
+use Rattle.dom_arena.specs.Faults.{AnswersBy, refusal_of_fault, cause_in}
+use Rattle.dom_arena.specs.declared.fault.DocFault.{DocFault}
+use Rattle.relayout_cli.specs.Pages.{page_view, state_view}
+use Rattle.relayout_cli.specs.declared.page.Page.{Page as KeptPage}
+use Rattle.relayout_cli.specs.inner.Turns.{IsResponse, empty_logs}
+use Rattle.relayout_cli.specs.inner.Dumps.{IsDumpOf}
+use Rattle.relayout_cli.specs.inner.Edits.{HasRoot}
+
+-- ---- causes
+
+first_of-before : (cs ds : Causes) (c : Cause) → first_of cs ≡ Some c → first_of (cs ++ ds) ≡ Some c
+first_of-before [] ds c h = absurd (cc)
+first_of-before ((true, d) ∷ cs) ds c h = h
+first_of-before ((false, d) ∷ cs) ds c h = first_of-before cs ds c h
+
+first_of-after : (cs ds : Causes) → first_of cs ≡ None → first_of (cs ++ ds) ≡ first_of ds
+first_of-after [] ds h = refl
+first_of-after ((true, d) ∷ cs) ds h = absurd (cc)
+first_of-after ((false, d) ∷ cs) ds h = first_of-after cs ds h
+
+-- a form that is not built is refused as such
+two-not_built : (a b : Bool) → is_none (first_of ((a, NotBuilt) ∷ (b, NotBuilt) ∷ [])) ≡ false → first_of ((a, NotBuilt) ∷ (b, NotBuilt) ∷ []) ≡ Some NotBuilt
+two-not_built true b h = refl
+two-not_built false true h = refl
+two-not_built false false h = absurd (false≢true (sym h))
+
+one-not_built : (a : Bool) → is_none (first_of ((a, NotBuilt) ∷ [])) ≡ false → first_of ((a, NotBuilt) ∷ []) ≡ Some NotBuilt
+one-not_built true h = refl
+one-not_built false h = absurd (false≢true (sym h))
+
+forms-not_built : (q : Request) → is_none (first_of (form_causes q)) ≡ false → first_of (form_causes q) ≡ Some NotBuilt
+forms-not_built (edit (load width height doc sheets)) h = two-not_built _ _ h
+forms-not_built (edit (insert parent index new)) h = one-not_built _ h
+forms-not_built (edit (remove id)) h = absurd (false≢true (sym h))
+forms-not_built (query q) h = absurd (false≢true (sym h))
+
+pub refusal-not_built : (s : State) (q : Request) → is_none (first_of (form_causes q)) ≡ false → refusal_of s q ≡ Some NotBuilt
+unfolding refusal_of
+refusal-not_built s q h = first_of-before (form_causes q) (request_causes s q) NotBuilt (forms-not_built q h)
+
+refusal-built : (s : State) (q : Request) → first_of (form_causes q) ≡ None → refusal_of s q ≡ first_of (request_causes s q)
+unfolding refusal_of
+refusal-built s q h = first_of-after (form_causes q) (request_causes s q) h
+
+none-is_none : (o : Option Cause) → is_none o ≡ true → o ≡ None
+none-is_none None h = refl
+none-is_none (Some c) h = absurd (false≢true h)
+
+pub forms-built : (q : Request) → is_none (first_of (form_causes q)) ≡ true → first_of (form_causes q) ≡ None
+forms-built q h = none-is_none (first_of (form_causes q)) h
+
+-- the document of a load whose form is built is an element
+plain-root : (a : Bool) (doc : Tree) → first_of ((a, NotBuilt) ∷ (not (is_plain doc), NotBuilt) ∷ []) ≡ None → is_elem doc ≡ true
+plain-root a (elem name attributes kids) h = refl
+plain-root true (characters text) h = absurd (cc)
+plain-root false (characters text) h = absurd (cc)
+
+pub built-root : (e : Edit) → first_of (form_causes (edit e)) ≡ None → HasRoot e
+built-root (load width height doc sheets) h = plain-root _ doc h
+built-root (insert parent index new) h = tt
+built-root (remove id) h = tt
+
+-- a document's fault is a refusal by the causes of its call
+by-cause : (causes : Causes) (o : Option Cause) → first_of causes ≡ o → IsFirstCause causes o
+by-cause causes None h = tt
+by-cause causes (Some c) h = h
+
+pub refused-fault : {X : Type 0} (causes : Causes) (r : Result X DocFault) (e : DocFault) → AnswersBy causes r → r ≡ Err e → IsRefusedBy causes (refusal_of_fault e)
+refused-fault causes r e h is = elim (subst (λ (q : Result _ DocFault). AnswersBy causes q) is h) [
+  | inl memory ↦ rw memory tt
+  | inr cause ↦ by-cause causes (cause_in e) cause
+]
+
+-- ---- turns
+
+at-turn : (setting : Setting) (from to : Course) (s : State) (asked : Asked) (own : List Log) (reply : List ℕ) (a : Answer)
+    → from.state ≡ s → answer_to s asked ≡ a → IsAnswered a setting from asked own reply to → IsTurn setting from asked own reply to
+unfolding IsTurn
+at-turn setting from to s asked own reply a at is h =
+    subst (λ (b : Answer). IsAnswered b setting from asked own reply to) (sym (ap (λ (t : State). answer_to t asked) at ∙ is)) h
+
+pub empty-are : (n : ℕ) → AreLogs n (λ log. log ≡ []) (empty_logs n)
+empty-are zero = refl
+empty-are (suc n) = ([], refl, (empty_logs n, empty-are n, refl))
+
+-- what is refused begins as many logs as what it asks for may begin
+refused-most : (asked : Asked) → logs_of_refused asked ≡ most_logs asked
+refused-most nothing = refl
+refused-most (broken c) = refl
+refused-most (request (edit e)) = refl
+refused-most (request (query Dump)) = refl
+
+pub response-silent : (page : Option KeptPage) (reply : List ℕ) → reply ≡ [] → IsResponse nothing [] reply page page
+response-silent page reply e = λ setting from at. (from, at-turn setting from from (state_view page) nothing [] reply silent at refl (refl, e, refl), at)
+
+pub response-refused : (page : Option KeptPage) (asked : Asked) (c : Cause) (reply : List ℕ) → answer_to (state_view page) asked ≡ refused c → reply ≡ error_line c
+    → IsResponse asked (empty_logs (most_logs asked)) reply page page
+response-refused page asked c reply is e = λ setting from at.
+    (from, at-turn setting from from (state_view page) asked (empty_logs (most_logs asked)) reply (refused c) at is (subst (λ (n : ℕ). AreLogs n (λ log. log ≡ []) (empty_logs (most_logs asked))) (sym (refused-most asked)) (empty-are (most_logs asked)), e, refl), at)
+
+-- a request that is refused for its form, or for what is loaded
+pub response-not_built : (page : Option KeptPage) (q : Request) (reply : List ℕ) → is_none (first_of (form_causes q)) ≡ false → reply ≡ error_line NotBuilt
+    → IsResponse (request q) (empty_logs (most_logs (request q))) reply page page
+response-not_built page q reply h e = response-refused page (request q) NotBuilt reply (ap (answer_by q) (refusal-not_built (state_view page) q h)) e
+
+pub response-cause : (page : Option KeptPage) (q : Request) (c : Cause) (reply : List ℕ) → first_of (form_causes q) ≡ None → first_of (request_causes (state_view page) q) ≡ Some c → reply ≡ error_line c
+    → IsResponse (request q) (empty_logs (most_logs (request q))) reply page page
+response-cause page q c reply built h e = response-refused page (request q) c reply (ap (answer_by q) (refusal-built (state_view page) q built ∙ h)) e
+
+pub response-edit : (page page' : Option KeptPage) (e : Edit) (reply : List ℕ) → first_of (form_causes (edit e)) ≡ None → first_of (edit_causes (state_view page) e) ≡ None
+    → state_view page' ≡ state_after_edit (state_view page) e → reply ≡ edit_text (brings_tree e) (accepted_by (state_view page) e)
+    → IsResponse (request (edit e)) (empty_logs (most_logs (request (edit e)))) reply page page'
+response-edit page page' e reply built allowed after told = λ setting from at. (
+  record { state = state_view page'; last = [] },
+  at-turn setting from (record { state = state_view page'; last = [] }) (state_view page) (request (edit e)) ([] ∷ []) reply (accepted (edit e)) at
+      (ap (answer_by (edit e)) (refusal-built (state_view page) (edit e) built ∙ allowed)) (record {
+        logs = ([], refl, ([], refl, refl));
+        text = told ∙ ap (λ (s : State). edit_text (brings_tree e) (accepted_by s e)) (sym at);
+        state = after ∙ ap (λ (s : State). state_after_edit s e) (sym at);
+        last = refl;
+      }),
+  refl,
+)
+
+pub response-dump : (page : KeptPage) (reply : List ℕ) → ((setting : Setting) → IsDumpOf setting (page_view page) reply)
+    → IsResponse (request (query Dump)) (empty_logs (most_logs (request (query Dump)))) reply (Some page) (Some page)
+response-dump page reply dump = λ setting from at. (
+  from,
+  at-turn setting from from (Some (page_view page)) (request (query Dump)) [] reply (accepted (query Dump)) at
+      (ap (answer_by (query Dump)) (refusal-built (Some (page_view page)) (query Dump) refl))
+      (subst (λ (s : State). IsQueryReply s setting from Dump [] reply) (sym at) ((dump setting).0, (dump setting).1, refl, (dump setting).2), refl),
+  at,
+)
+
+-- ---- replies that were appended to nothing
+
+pub OnOk-edit : {T E : Type 0} (r : Result T E) (page page' : Option KeptPage) (e : Edit) (b : Bool) (a : Accepted) (old new : List ℕ)
+    → OnOk r (new ≡ old ++ edit_text b a) → old ≡ [] → b ≡ brings_tree e → a ≡ accepted_by (state_view page) e
+    → first_of (form_causes (edit e)) ≡ None → first_of (edit_causes (state_view page) e) ≡ None → state_view page' ≡ state_after_edit (state_view page) e
+    → OnOk r (IsResponse (request (edit e)) (empty_logs (most_logs (request (edit e)))) new page page')
+OnOk-edit (Ok x) page page' e b a old new line empty brings is built allowed after =
+    response-edit page page' e new built allowed after (line ∙ rw (empty, brings, is) refl)
+OnOk-edit (Err x) page page' e b a old new line empty brings is built allowed after = tt
+
+pub OnOk-refused : {T E : Type 0} (r : Result T E) (page : Option KeptPage) (q : Request) (c : Cause) (old new : List ℕ)
+    → OnOk r (new ≡ old ++ error_line c) → old ≡ [] → first_of (form_causes q) ≡ None → first_of (request_causes (state_view page) q) ≡ Some c
+    → OnOk r (IsResponse (request q) (empty_logs (most_logs (request q))) new page page)
+OnOk-refused (Ok x) page q c old new line empty built h = response-cause page q c new built h (line ∙ ap (λ (front : List ℕ). front ++ error_line c) empty)
+OnOk-refused (Err x) page q c old new line empty built h = tt
+
+pub OnOk-not_built : {T E : Type 0} (r : Result T E) (page : Option KeptPage) (q : Request) (old new : List ℕ)
+    → OnOk r (new ≡ old ++ error_line NotBuilt) → old ≡ [] → is_none (first_of (form_causes q)) ≡ false
+    → OnOk r (IsResponse (request q) (empty_logs (most_logs (request q))) new page page)
+OnOk-not_built (Ok x) page q old new line empty h = response-not_built page q new h (line ∙ ap (λ (front : List ℕ). front ++ error_line NotBuilt) empty)
+OnOk-not_built (Err x) page q old new line empty h = tt
+
+pub OnOk-broken : {T E : Type 0} (r : Result T E) (page : Option KeptPage) (c : Cause) (old new : List ℕ) → OnOk r (new ≡ old ++ error_line c) → old ≡ [] → OnOk r (IsResponse (broken c) [] new page page)
+OnOk-broken (Ok x) page c old new line empty = response-refused page (broken c) c new refl (line ∙ ap (λ (front : List ℕ). front ++ error_line c) empty)
+OnOk-broken (Err x) page c old new line empty = tt
+
+pub OnOk-dumped : {T E : Type 0} (r : Result T E) (state : Option KeptPage) (page : KeptPage) (q : Query) (new : List ℕ) → state ≡ Some page
+    → OnOk r ((setting : Setting) → IsDumpOf setting (page_view page) new) → OnOk r (IsResponse (request (query q)) (empty_logs (most_logs (request (query q)))) new state state)
+OnOk-dumped (Ok x) state page Dump new is dump = subst (λ (s : Option KeptPage). IsResponse (request (query Dump)) [] new s s) (sym is) (response-dump page new dump)
+OnOk-dumped (Err x) state page q new is dump = tt
+
+-- a query needs a page
+pub query-not_loaded : (state : Option KeptPage) (q : Query) → state ≡ None → first_of (request_causes (state_view state) (query q)) ≡ Some NotLoaded
+query-not_loaded state Dump is = rw is refl
+
+-- a refusal with a cause is by the first that holds
+pub refused-cause : (causes : Causes) (r : Refusal) (c : Cause) → IsRefusedBy causes r → cause_of r ≡ Some c → first_of causes ≡ Some c
+refused-cause causes r c h is = subst (λ (o : Option Cause). IsFirstCause causes o) is h

@@ -1,0 +1,8 @@
+-- What private contracts cite.
+pub mod Flat
+pub mod Frames
+pub mod Walk
+pub mod Dumps
+pub mod Edits
+pub mod Coming
+pub mod Turns

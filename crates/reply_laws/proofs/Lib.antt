@@ -1,0 +1,9 @@
+pub mod AreLogs
+pub mod FirstOf
+pub mod IsPlain
+pub mod KeepsLimits
+pub mod NewIds
+pub mod StateHasGivenIds
+pub mod StateKeepsLimits
+pub mod IsAnswered
+pub mod AreReplies

@@ -1,0 +1,67 @@
+-- The limits of what is loaded after a turn.
+use Rattle.std.proofs.Common.{Bool, List, None, Option, Some, false, is_some, ltb-false, nat_lt, not, refl, subst, sym, true, ℕ, ◌||◌, ◌∷◌, ◌≡◌}
+use Rattle.layout_model.specs.Setting.{Setting}
+use Rattle.page_laws.proofs.Options.{or-false}
+use Rattle.page_model.specs.Edits.{insert_causes, load_causes}
+use Rattle.page_model.specs.Pages.{State}
+use Rattle.page_model.specs.Refusals.{Causes}
+use Rattle.page_model.specs.declared.limits.TheConstants.{MAX_SIDE}
+use Rattle.page_model.specs.declared.cause.Cause.{Cause}
+use Rattle.page_model.specs.declared.cause.Cause.TheVariants.{NotBuilt, ViewportRange}
+use Rattle.reply_laws.proofs.FirstOf.{first-false}
+use Rattle.reply_laws.proofs.KeepsLimits.{kept-inserted, kept-loaded, kept-removed}
+use Rattle.reply_laws.specs.States.{StateHasGivenIds, StateKeepsLimits}
+use Rattle.reply_model.specs.Replies.{Course, IsAnswered, IsTurn}
+use Rattle.request_model.specs.Requests.{Asked, Edit, Request, broken, edit, insert, load, nothing, query, remove, request}
+use Rattle.request_model.specs.States.{answer_by, edit_causes, is_plain, refusal_of, state_after_edit}
+use Rattle.stream_model.specs.Ledger.{Log}
+
+not-false : (b : Bool) → not b ≡ false → b ≡ true
+not-false true h = refl
+not-false false h = absurd (cc)
+
+kept-after_edit : (s : State) (e : Edit) → StateHasGivenIds s → StateKeepsLimits s → refusal_of s (edit e) ≡ None → StateKeepsLimits (state_after_edit s e)
+unfolding refusal_of
+kept-after_edit s (load width height doc sheets) given keeps none =
+    let sides : Causes = edit_causes s (load width height doc sheets) in
+    let a = first-false (is_some sheets) NotBuilt ((not (is_plain doc), NotBuilt) ∷ sides) none in
+    let b = first-false (not (is_plain doc)) NotBuilt sides a.1 in
+    let c = first-false (nat_lt MAX_SIDE width || nat_lt MAX_SIDE height) ViewportRange (load_causes doc) b.1 in
+    let side = or-false (nat_lt MAX_SIDE width) (nat_lt MAX_SIDE height) c.0 in
+    record {
+      document = kept-loaded doc (not-false (is_plain doc) b.0) c.1;
+      width = ltb-false MAX_SIDE width side.0;
+      height = ltb-false MAX_SIDE height side.1;
+    }
+kept-after_edit None (insert parent index new) given keeps none = tt
+kept-after_edit (Some page) (insert parent index new) given keeps none =
+    let a = first-false (not (is_plain new)) NotBuilt (insert_causes parent index new page.document) none in
+    record {
+      document = kept-inserted parent index new page.document given keeps.document (not-false (is_plain new) a.0) a.1;
+      width = keeps.width;
+      height = keeps.height;
+    }
+kept-after_edit None (remove id) given keeps none = tt
+kept-after_edit (Some page) (remove id) given keeps none = record {
+  document = kept-removed id page.document keeps.document;
+  width = keeps.width;
+  height = keeps.height;
+}
+
+kept-same : (from to : Course) → to ≡ from → StateKeepsLimits from.state → StateKeepsLimits to.state
+kept-same from to e keeps = subst (λ (c : Course). StateKeepsLimits c.state) (sym e) keeps
+
+kept-by : (cause : Option Cause) (setting : Setting) (from to : Course) (q : Request) (own : List Log) (reply : List ℕ)
+    → refusal_of from.state q ≡ cause → StateHasGivenIds from.state → StateKeepsLimits from.state
+    → IsAnswered (answer_by q cause) setting from (request q) own reply to → StateKeepsLimits to.state
+kept-by (Some c) setting from to q own reply is given keeps h = kept-same from to h.2 keeps
+kept-by None setting from to (query q) own reply is given keeps h = kept-same from to h.1 keeps
+kept-by None setting from to (edit e) own reply is given keeps h =
+    subst StateKeepsLimits (sym h.state) (kept-after_edit from.state e given keeps is)
+
+pub kept-turn : (setting : Setting) (from to : Course) (asked : Asked) (own : List Log) (reply : List ℕ)
+    → StateHasGivenIds from.state → StateKeepsLimits from.state → IsTurn setting from asked own reply to → StateKeepsLimits to.state
+unfolding IsTurn
+kept-turn setting from to nothing own reply given keeps h = kept-same from to h.2 keeps
+kept-turn setting from to (broken c) own reply given keeps h = kept-same from to h.2 keeps
+kept-turn setting from to (request q) own reply given keeps h = kept-by (refusal_of from.state q) setting from to q own reply refl given keeps h
