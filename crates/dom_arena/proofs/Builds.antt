@@ -8,9 +8,9 @@ use Rattle.dom_arena.proofs.Hooked.{Relinked, attaches, relinked-attached}
 use Rattle.dom_arena.proofs.Kept.{alone-live, get-spot, get-spot-other, live-same, live-slot-same, live-small, live-within, spot-dead, store-relinked, store-with}
 use Rattle.dom_arena.proofs.Lists.{length-push}
 use Rattle.dom_arena.proofs.Releases.{id-slot, linked-live, linked-slots, node-length, place-slot, slot-of-body}
-use Rattle.dom_arena.proofs.Renamed.{children-renamed, id_of-renamed, ids-renamed, inserted-renamed, name_of-renamed, rename-same}
+use Rattle.dom_arena.proofs.Renamed.{children-renamed, height-renamed, id_of-renamed, ids-renamed, inserted-renamed, name_of-renamed, rename-same, without-renamed}
 use Rattle.dom_arena.proofs.Written.{body-parts, get-changed-other}
-use Rattle.dom_arena.specs.Built.{Built, Restored}
+use Rattle.dom_arena.specs.Built.{Built, IsBranch, Released, Restored}
 use Rattle.dom_arena.specs.Cells.{AreChained, AreLinked, IsLinked, body_of, final, front}
 use Rattle.dom_arena.specs.Rename.{IsAlone, rename}
 use Rattle.dom_arena.specs.Slots.{IsLive, body_at, body_in, cells_of, id_at, is_node, last_link, own_in, place_at, place_in, target, tree_of_content}
@@ -22,12 +22,12 @@ use Rattle.page_laws.proofs.ParentOf.{child-lower}
 use Rattle.page_laws.proofs.Siblings.{children-distinct}
 use Rattle.page_laws.proofs.Spliced.{spliced-among, spliced-part, spliced-rest}
 use Rattle.page_laws.proofs.TreeAfterInsert.{id_of-inserted, spliced-inserted}
-use Rattle.page_laws.proofs.WithIds.{distinct-with_ids, node_count-with_ids}
+use Rattle.page_laws.proofs.WithIds.{distinct-with_ids, height-with_ids, node_count-with_ids, without-with_ids}
 use Rattle.page_laws.specs.Ids.{AreApart, FitsBelow}
-use Rattle.page_model.specs.Document.{AreDistinct, IsAmong, Node, Nodes, all_ids, all_with_ids, children_of, element, find, first, id_of, ids, ids_of, name_of, no_nodes, node, text, with_ids}
+use Rattle.page_model.specs.Document.{AreDistinct, IsAmong, Node, Nodes, all_ids, all_with_ids, children_of, element, find, first, height, id_of, ids, ids_of, name_of, no_nodes, node, text, with_ids, without_ids}
 use Rattle.page_model.specs.Edits.{tree_after_insert, with_child}
 use Rattle.page_model.specs.Trees.{Attribute, Text, Tree, Trees, depth, depths, elem, size, sizes, text_size, text_sizes, tree, trees_of, value_size}
-use Rattle.page_model.specs.declared.limits.TheConstants.{MAX_NODES}
+use Rattle.page_model.specs.declared.limits.TheConstants.{MAX_DEPTH, MAX_IDS, MAX_NODES, MAX_TEXTS}
 use Rattle.dom_arena.specs.declared.link.Link.{Link}
 use Rattle.dom_arena.specs.declared.slot.Content.{Content}
 use Rattle.dom_arena.specs.declared.slot.Content.TheVariants.{Chars, Element, Free}
@@ -335,3 +335,56 @@ restored-same a b s e = subst (Restored a) (sym e) (record {
   live = refl;
   code_points = refl;
 })
+
+-- the room of an element is enough for its next child
+pub child-fits : (a b : Kept) (name : Text) (attributes : List Attribute) (xs : List Tree) (y : Tree) (ys : List Tree) (p : ℕ)
+    → Built a b (elem name attributes (trees_of xs)) p
+    → a.live + size (elem name attributes (trees_of (xs ++ y ∷ ys))) ≤ MAX_NODES
+    → length a.table + size (elem name attributes (trees_of (xs ++ y ∷ ys))) ≤ MAX_IDS
+    → a.code_points + text_size (elem name attributes (trees_of (xs ++ y ∷ ys))) ≤ MAX_TEXTS
+    → depth (elem name attributes (trees_of (xs ++ y ∷ ys))) ≤ MAX_DEPTH
+    → IsStore b × ((b.live + size y ≤ MAX_NODES) × ((length b.table + size y ≤ MAX_IDS) × ((b.code_points + text_size y ≤ MAX_TEXTS) × (depth y ≤ MAX_DEPTH))))
+child-fits a b name attributes xs y ys p r nodes given points low =
+    let deep = depths-behind xs y ys in
+    (r.store, (omega (arith, nodes, r.live, sizes-append xs y ys), (omega (arith, given, r.given, sizes-append xs y ys),
+        (omega (arith, points, r.code_points, points-append xs y ys), omega (arith, low, deep.0)))))
+
+-- what was built can be released, also after a later tree was given up
+pub built-branch : (a b c : Kept) (t : Tree) (s levels : ℕ) (r : Built a b t s) → Restored b c → depth t ≤ levels → IsBranch c s levels r.built
+built-branch a b c t s levels r g low =
+    let f : ℕ → ℕ = id_at b.slots in
+    let plain : without_ids r.built ≡ t = sym (without-renamed f r.built) ∙ (ap without_ids r.tree ∙ without-with_ids (length a.table) t) in
+    let high : height r.built ≡ depth t = sym (height-renamed f r.built) ∙ (ap height r.tree ∙ height-with_ids (length a.table) t) in
+    let points : text_size (without_ids r.built) ≡ text_size t = ap text_size plain in
+    record {
+      store = g.store;
+      linked = linked-slots b.slots c.slots r.built (λ j h. g.same j (built-live a b t s r j h)) r.linked;
+      distinct = built-distinct a b t s r;
+      at = r.at;
+      low = omega (arith, low, high);
+      live = omega (arith, built-count a b t s r, g.live);
+      code_points = omega (arith, points, g.code_points, r.code_points);
+    }
+
+-- after the release all is as before the building, besides the ids that were given
+pub restored-released : (a b c d : Kept) (t : Tree) (s levels : ℕ) (r : Built a b t s) → Restored b c → depth t ≤ levels
+    → ((n : Node) → IsBranch c s levels n → Released c d (ids n) (text_size (without_ids n))) → Restored a d
+restored-released a b c d t s levels r g low release =
+    let f : ℕ → ℕ = id_at b.slots in
+    let gone : Released c d (ids r.built) (text_size (without_ids r.built)) = release r.built (built-branch a b c t s levels r g low) in
+    let plain : without_ids r.built ≡ t = sym (without-renamed f r.built) ∙ (ap without_ids r.tree ∙ without-with_ids (length a.table) t) in
+    let points : text_size (without_ids r.built) ≡ text_size t = ap text_size plain in
+    let number : length (ids r.built) ≡ size t = sym (map-length f (ids r.built)) ∙ (ap length (sym (ids-renamed f r.built) ∙ ap ids r.tree) ∙ node_count-with_ids (length a.table) t) in
+    record {
+      store = gone.store;
+      same = λ x h. gone.others x (λ k. r.fresh x k h) ∙ (g.same x (built-old a b t s r x h) ∙ r.same x h);
+      only = λ x h.
+          let out : IsAmong x (ids r.built) → ⊥ = λ k. gone.gone x k h in
+          elim (r.only x (g.only x (live-slot-same d.slots c.slots x (sym (gone.others x out)) h))) [
+            | inl k ↦ k
+            | inr k ↦ absurd (out k)
+          ];
+      given = omega (arith, gone.given, g.given, r.given);
+      live = omega (arith, gone.live, g.live, r.live, number);
+      code_points = omega (arith, gone.code_points, g.code_points, r.code_points, points);
+    }

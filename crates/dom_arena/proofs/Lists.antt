@@ -1,5 +1,5 @@
 -- Lists that are read by index after a write.
-use Rattle.std.proofs.Common.{List, None, Some, [], ap, arith, inl, inr, length, refl, slice_get, slice_set, suc, sym, zero, ℕ, ◌++◌, ◌<◌, ◌∷◌, ◌≡◌, ◌≤◌, ◌⊎◌}
+use Rattle.std.proofs.Common.{List, None, Some, [], ap, arith, drop, inl, inr, length, refl, slice_get, slice_index_or, slice_set, suc, sym, take, zero, ℕ, ◌++◌, ◌<◌, ◌∷◌, ◌≡◌, ◌≤◌, ◌⊎◌}
 use Rattle.std.proofs.lemmas.Option.{none-some, same_Some}
 
 pub get-set-same : {X : Type 0} (xs : List X) (i : ℕ) (a : X) → i < length xs → slice_get (slice_set xs i a) i ≡ Some a
@@ -56,3 +56,15 @@ push-cases (z ∷ xs) y (suc i) x h = elim (push-cases xs y i x h) [
   | inl k ↦ inl k
   | inr k ↦ inr (ap suc k.0, k.1)
 ]
+
+-- ---- the items before an index, the one there, and those behind
+
+pub take-next : {X : Type 0} (xs : List X) (i : ℕ) (x : X) → i < length xs → x ≡ slice_index_or xs i x → take (suc i) xs ≡ take i xs ++ x ∷ []
+take-next [] i x h e = absurd (omega (arith, h))
+take-next (y ∷ ys) zero x h e = ap (λ z. z ∷ []) (sym e)
+take-next (y ∷ ys) (suc i) x h e = ap (λ zs. y ∷ zs) (take-next ys i x (omega (arith, h)) e)
+
+pub cut-at : {X : Type 0} (xs : List X) (i : ℕ) (x : X) → i < length xs → x ≡ slice_index_or xs i x → xs ≡ take i xs ++ x ∷ drop (suc i) xs
+cut-at [] i x h e = absurd (omega (arith, h))
+cut-at (y ∷ ys) zero x h e = ap (λ z. z ∷ ys) (sym e)
+cut-at (y ∷ ys) (suc i) x h e = ap (λ zs. y ∷ zs) (cut-at ys i x (omega (arith, h)) e)
