@@ -11,3 +11,4 @@ pub mod Hooked
 pub mod Kept
 pub mod Releases
 pub mod Builds
+pub mod Docs

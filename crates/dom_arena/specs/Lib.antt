@@ -9,3 +9,5 @@ pub mod Stores
 pub mod Views
 pub mod Writes
 pub mod Built
+pub mod Docs
+pub mod SeenCode

@@ -1,6 +1,6 @@
 -- What a list of slots says.
 use Rattle.std.specs.Prelude.{◌≡◌, ℕ, ◌==◌, List, [], Bool, true, false, Option, Some, None, IsSome, slice_get, if◌then◌else◌, option_map, option_and_then, unwrap_or}
-use Rattle.page_model.specs.Trees.{Tree, elem, characters, no_trees}
+use Rattle.page_model.specs.Trees.{Text, Tree, elem, characters, no_trees}
 use Rattle.page_model.specs.Document.{Node, element, text, no_nodes}
 use Rattle.dom_arena.specs.declared.link.Link.{Link}
 use Rattle.dom_arena.specs.declared.slot.Slot.{Slot}
@@ -62,7 +62,31 @@ abbrev pub last_link : Option Slot → Link
 last_link None = record { raw = 4294967295 }
 last_link (Some s) = s.last
 
+abbrev pub up_link : Option Slot → Link
+up_link None = record { raw = 4294967295 }
+up_link (Some s) = s.parent
+
+abbrev pub next_link : Option Slot → Link
+next_link None = record { raw = 4294967295 }
+next_link (Some s) = s.next
+
+abbrev pub prev_link : Option Slot → Link
+prev_link None = record { raw = 4294967295 }
+prev_link (Some s) = s.prev
+
 -- ---- contents
+
+-- the name of an element
+abbrev pub name_in : Content → Option Text
+name_in (Element name attributes) = Some name
+name_in (Chars cs) = None
+name_in (Free next) = None
+
+-- the code points of a text
+abbrev pub text_in : Content → Option Text
+text_in (Element name attributes) = None
+text_in (Chars cs) = Some cs
+text_in (Free next) = None
 
 -- whether a node stands there
 abbrev pub is_node : Option Content → Bool

@@ -4,14 +4,17 @@
 mod attrs;
 mod build;
 mod counts;
+mod doc;
 mod fault;
 mod link;
 mod links;
+mod reading;
 mod release;
 mod slot;
 mod store;
 mod tree;
 
 pub use attrs::{Attribute, Attrs};
+pub use doc::Doc;
 pub use fault::DocFault;
 pub use tree::Tree;

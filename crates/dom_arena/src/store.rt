@@ -1,12 +1,13 @@
 //! Slots, the table that leads from ids to them, and the list of free slots.
-ghost use Rattle.std.specs.Prelude.{◌≡◌, ◌≤◌, ◌<◌, ◌+◌, [], Some, ℕ, length, IfOk, OnOk, OnErr, slice_get, slice_set};
+ghost use Rattle.std.specs.Prelude.{◌≡◌, ◌≤◌, ◌<◌, ◌+◌, [], Some, ℕ, length, IfOk, OnOk, OnErr, slice_get, slice_set, option_map};
+ghost use Rattle.std.specs.Option.{option_copied};
 ghost use Rattle.dom_arena.specs.Slots.{target, content_at, id_at};
-ghost use Rattle.dom_arena.specs.Stores.{spot, slots_with, free_behind, leaf, no_link, next_free, kept_with, kept_without, size_in, slots_without};
+ghost use Rattle.dom_arena.specs.Stores.{spot, slots_with, free_behind, leaf, no_link, next_free, kept_with, kept_without, size_in, slots_without, slot_by_id};
 ghost use Rattle.dom_arena.specs.Views.{kept};
 
 use crate::link::Link;
 use crate::slot::{Content, Slot};
-use port_core::NoMemory;
+use port_core::{NoMemory, NodeId};
 use std::alloc::Global;
 
 /// Slots, the table that leads from ids to them, and the list of free slots.
@@ -121,6 +122,32 @@ impl Store {
             live: 0,
             code_points: 0,
         }
+    }
+
+    /// Returns the slot of the node `id`.
+    pub fn slot(&self, id: NodeId) -> Option<&Slot>
+        ensures { option_copied result ≡ slot_by_id (kept self.now) id }
+    {
+        let at = self.table.get(id as usize)?.get()?;
+        self.slots.get(at as usize)
+    }
+
+    /// Returns the id of the node in the slot `at`, or 0 where there is no such slot.
+    pub fn id_in(&self, at: u32) -> NodeId
+        ensures { result ≡ id_at self.now.slots.items at }
+    {
+        match self.slots.get(at as usize) {
+            Some(slot) => slot.id,
+            None => 0,
+        }
+    }
+
+    /// Returns the id of the node that `link` leads to.
+    pub fn id_behind(&self, link: Link) -> Option<NodeId>
+        ensures { result ≡ option_map (id_at self.now.slots.items) (target link) }
+    {
+        let at = link.get()?;
+        Some(self.id_in(at))
     }
 
     /// Puts a node that has neither parent nor children into a slot, with the next id; returns its slot.

@@ -1,0 +1,113 @@
+//! The document (DOM sections 1.1 and 4.2.3).
+ghost use Rattle.std.specs.Prelude.{◌≡◌, ◌≤◌, is_some, encode_utf8_all, option_map};
+ghost use Rattle.page_model.specs.Document.{id_of, find, parent_of, first_child_of, next_of, prev_of, name_at, text_at};
+ghost use Rattle.page_model.specs.declared.limits.TheConstants.{MAX_NODES};
+ghost use Rattle.dom_arena.specs.Docs.{IsDocument};
+
+use crate::reading;
+use crate::store::Store;
+use port_core::NodeId;
+use std::alloc::Global;
+use std::marker::Model;
+
+/// A document: a tree of elements and texts, each with an id of its own. An id is never given again.
+///
+/// Nodes are kept in slots that name each other; the slot of a removed node is taken again.
+#[derive(Debug, Drop)]
+pub struct Doc {
+    alloc: Global,
+    store: Store,
+    /// The slot of the root.
+    root: u32,
+}
+
+impl Model for Doc {
+    ghost use Rattle.dom_arena.specs.Docs.{Seen, IsDoc, document_in};
+    ghost use Rattle.dom_arena.specs.SeenCode.{coded_seen};
+    ghost use Rattle.dom_arena.specs.Views.{kept};
+
+    ghost Value = { Seen };
+
+    ghost coded = { coded_seen };
+
+    ghost view = { λ d. record { document = document_in (kept d.store) d.root } };
+
+    ghost invariant = { λ d. IsDoc (kept d.store) d.root };
+}
+
+impl Doc {
+    /// Returns the id of the root.
+    pub fn root(&self) -> NodeId
+        ensures value { result ≡ id_of self.now.document.root }
+        ensures facts { IsDocument self.now.document }
+    {
+        self.store.id_in(self.root)
+    }
+
+    /// Returns the id that the next new node gets, which is the number of ids that were given.
+    pub fn next_id(&self) -> NodeId
+        ensures value { result ≡ self.now.document.next_id }
+        ensures facts { IsDocument self.now.document }
+    {
+        self.store.table.len() as NodeId
+    }
+
+    /// Returns how many slots are kept, live and free.
+    pub fn slots(&self) -> usize
+        ensures { result ≤ MAX_NODES }
+    {
+        self.store.slots.len()
+    }
+
+    /// Whether the document has the node `id`.
+    pub fn is_live(&self, id: NodeId) -> bool
+        ensures value { result ≡ is_some (find id self.now.document.root) }
+        ensures facts { IsDocument self.now.document }
+    {
+        self.store.slot(id).is_some()
+    }
+
+    /// Returns the name of the element `id`.
+    pub fn tag(&self, id: NodeId) -> Option<&str>
+        ensures { option_map (λ s. s.now) result
+            ≡ option_map encode_utf8_all (name_at id self.now.document.root) }
+    {
+        reading::name(self.store.slot(id))
+    }
+
+    /// Returns the code points of the text `id`.
+    pub fn text(&self, id: NodeId) -> Option<&str>
+        ensures { option_map (λ s. s.now) result
+            ≡ option_map encode_utf8_all (text_at id self.now.document.root) }
+    {
+        reading::text(self.store.slot(id))
+    }
+
+    /// Returns the first child of the element `id`.
+    pub fn first_child(&self, id: NodeId) -> Option<NodeId>
+        ensures { result ≡ first_child_of id self.now.document.root }
+    {
+        self.store.id_behind(reading::first(self.store.slot(id)))
+    }
+
+    /// Returns the element that has the node `id` among its children.
+    pub fn parent(&self, id: NodeId) -> Option<NodeId>
+        ensures { result ≡ parent_of id self.now.document.root }
+    {
+        self.store.id_behind(reading::parent(self.store.slot(id)))
+    }
+
+    /// Returns the sibling right after the node `id`.
+    pub fn next(&self, id: NodeId) -> Option<NodeId>
+        ensures { result ≡ next_of id self.now.document.root }
+    {
+        self.store.id_behind(reading::next(self.store.slot(id)))
+    }
+
+    /// Returns the sibling right before the node `id`.
+    pub fn prev(&self, id: NodeId) -> Option<NodeId>
+        ensures { result ≡ prev_of id self.now.document.root }
+    {
+        self.store.id_behind(reading::prev(self.store.slot(id)))
+    }
+}
