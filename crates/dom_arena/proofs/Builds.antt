@@ -179,7 +179,7 @@ with_ids-length : (n : ℕ) (xs : List Tree) → length (ids_of (all_with_ids n 
 with_ids-length n [] = refl
 with_ids-length n (x ∷ xs) = ap suc (with_ids-length (n + size x) xs)
 
-map-length : (f : ℕ → ℕ) (xs : List ℕ) → length (map f xs) ≡ length xs
+pub map-length : (f : ℕ → ℕ) (xs : List ℕ) → length (map f xs) ≡ length xs
 map-length f [] = refl
 map-length f (x ∷ xs) = ap suc (map-length f xs)
 
@@ -216,7 +216,7 @@ name-with f n name attributes ts m e = ap is_some (sym (name_of-renamed f m)) �
 top-found : (p : ℕ) (m : Node) → id_of m ≡ p → find p m ≡ Some m
 top-found p m e = subst (λ (q : ℕ). find q m ≡ Some m) e (find-top m)
 
-children-count : (n : Node) → length (ids_of (children_of n)) ≤ length (ids n)
+pub children-count : (n : Node) → length (ids_of (children_of n)) ≤ length (ids n)
 children-count (element id name attributes children) = let rest = tops-count children in omega (arith, rest)
   where
     tops-count : (ns : Nodes) → length (ids_of ns) ≤ length (all_ids ns)

@@ -12,3 +12,4 @@ pub mod Kept
 pub mod Releases
 pub mod Builds
 pub mod Docs
+pub mod Loads

@@ -33,6 +33,10 @@ pub record IsStore (k : Kept) : Type 0 where
   pub found : (i x : ℕ) → table_at k.table i ≡ Some x → IsLive k.slots x × (id_at k.slots x ≡ i)
   pub few : length k.slots ≤ MAX_NODES
 
+-- what is kept of no nodes
+abbrev pub empty_kept : Kept
+empty_kept = record { slots = []; table = []; free = record { raw = 4294967295 }; live = 0; code_points = 0 }
+
 -- the slot of the node with an id
 abbrev pub slot_by_id : Kept → ℕ → Option Slot
 slot_by_id k i = option_and_then (slice_get k.slots) (table_at k.table i)

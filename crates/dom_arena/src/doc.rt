@@ -1,12 +1,17 @@
 //! The document (DOM sections 1.1 and 4.2.3).
-ghost use Rattle.std.specs.Prelude.{◌≡◌, ◌≤◌, is_some, encode_utf8_all, option_map};
-ghost use Rattle.page_model.specs.Document.{id_of, find, parent_of, first_child_of, next_of, prev_of, name_at, text_at};
+ghost use Rattle.std.specs.Prelude.{◌≡◌, ◌≤◌, true, IfOk, is_some, encode_utf8_all, option_map};
+ghost use Rattle.page_model.specs.Document.{document, id_of, find, parent_of, first_child_of, next_of, prev_of, name_at, text_at};
 ghost use Rattle.page_model.specs.declared.limits.TheConstants.{MAX_NODES};
+ghost use Rattle.page_model.specs.Trees.{is_elem};
+ghost use Rattle.page_laws.specs.Limits.{KeepsLimits};
 ghost use Rattle.dom_arena.specs.Docs.{IsDocument};
+ghost use Rattle.dom_arena.specs.Shape.{shape};
 
+use crate::build::build;
 use crate::reading;
 use crate::store::Store;
-use port_core::NodeId;
+use crate::tree::Tree;
+use port_core::{NoMemory, NodeId};
 use std::alloc::Global;
 use std::marker::Model;
 
@@ -110,4 +115,15 @@ impl Doc {
     {
         self.store.id_behind(reading::prev(self.store.slot(id)))
     }
+}
+
+/// Loads a tree that breaks no limit.
+fn load(alloc: Global, tree: &Tree) -> Result<Doc, NoMemory>
+    requires element { is_elem (shape tree.now) ≡ true }
+    requires limits { KeepsLimits (document (shape tree.now)) }
+    ensures { IfOk result (λ doc. doc.document ≡ document (shape tree.now)) }
+{
+    let mut store = Store::new(alloc);
+    let root = build(&mut store, alloc, tree)?;
+    Ok(Doc { alloc, store, root })
 }
