@@ -1,5 +1,5 @@
 -- What holds of a document in slots.
-use Rattle.std.proofs.Common.{Bool, List, None, Option, Some, [], ap, eq-eqb, false, inl, inr, is_some, length, map, option_and_then, option_map, refl, slice_get, subst, sym, true, ℕ, ◌<◌, ◌==◌, ◌||◌, ◌∙◌, ◌∷◌, ◌≡◌}
+use Rattle.std.proofs.Common.{Bool, List, None, Option, Some, [], ap, eq-eqb, false, inl, inr, is_some, length, map, option_and_then, option_map, refl, slice_get, subst, sym, true, unwrap_or, ℕ, ◌<◌, ◌==◌, ◌||◌, ◌∙◌, ◌∷◌, ◌≡◌}
 use Rattle.std.proofs.lemmas.Bool.{cases_Bool, false≢true}
 use Rattle.std.proofs.lemmas.Option.{none-some, same_Some}
 use Rattle.dom_arena.proofs.Kept.{alone-live, id-given}
@@ -11,18 +11,18 @@ use Rattle.dom_arena.specs.Cells.{Place, body_of}
 use Rattle.dom_arena.specs.Docs.{HoldsTree, IsDoc, IsDocument, document_in}
 use Rattle.dom_arena.specs.Reading.{tree_in}
 use Rattle.dom_arena.specs.Rename.{IsAlone, rename}
-use Rattle.dom_arena.specs.Slots.{IsLive, body_at, body_in, cells_of, first_link, id_at, name_in, next_link, own_in, place_at, place_in, prev_link, table_at, target, text_in, up_link}
+use Rattle.dom_arena.specs.Slots.{IsLive, attributes_in, attributes_in_slot, body_at, body_in, cells_of, first_link, id_at, name_in, next_link, own_in, place_at, place_in, prev_link, table_at, target, text_in, up_link}
 use Rattle.dom_arena.specs.Stores.{Kept, slot_by_id}
-use Rattle.dom_arena.specs.declared.link.Link.{Link}
-use Rattle.dom_arena.specs.declared.slot.Content.{Content}
-use Rattle.dom_arena.specs.declared.slot.Content.TheVariants.{Chars, Element, Free}
-use Rattle.dom_arena.specs.declared.slot.Slot.{Slot}
 use Rattle.page_laws.proofs.Find.{among-find, find-id, some-among}
 use Rattle.page_laws.proofs.IsAmong.{among-split}
 use Rattle.page_laws.proofs.Options.{none-or-some, some-is}
 use Rattle.page_laws.proofs.ParentOf.{found-parent, parent-absent, parent-among, parent-found}
 use Rattle.page_laws.specs.Ids.{HasGivenIds}
-use Rattle.page_model.specs.Document.{AreDistinct, IsAmong, Node, Nodes, after, all_ids, before, by_itself, children_of, element, find, first, first_child_of, id_of, ids, ids_of, is_among, name_at, name_of, next_of, no_nodes, node, or_else, parent_below, parent_in, parent_of, prev_of, text, text_at, text_of}
+use Rattle.page_model.specs.Document.{AreDistinct, IsAmong, Node, Nodes, after, all_ids, attributes_at, attributes_of, before, by_itself, children_of, element, find, first, first_child_of, id_of, ids, ids_of, is_among, name_at, name_of, next_of, no_nodes, node, or_else, parent_below, parent_in, parent_of, prev_of, text, text_at, text_of}
+use Rattle.dom_arena.specs.declared.link.Link.{Link}
+use Rattle.dom_arena.specs.declared.slot.Content.{Content}
+use Rattle.dom_arena.specs.declared.slot.Content.TheVariants.{Chars, Element, Free}
+use Rattle.dom_arena.specs.declared.slot.Slot.{Slot}
 
 -- ---- ids
 
@@ -152,6 +152,24 @@ pub read-text : (k : Kept) (x i : ℕ) → IsDoc k x → option_and_then (λ (s 
 read-text k x i d =
     read-slot k x (tree_in k.slots x) i (option_and_then (λ (s : Slot). text_in s.content)) (option_and_then text_of) d.tree refl
     (λ y m s b. own-text y s.content m (body-parts y s (body_of m) b).0 ∙ sym (text_of-renamed (id_at k.slots) m))
+
+attributes-itself : (m : Node) → attributes_of (by_itself m) ≡ attributes_of m
+attributes-itself (element id name attributes children) = refl
+attributes-itself (text id cs) = refl
+
+attributes_of-renamed : (f : ℕ → ℕ) (m : Node) → attributes_of (rename f m) ≡ attributes_of m
+attributes_of-renamed f (element id name attributes children) = refl
+attributes_of-renamed f (text id cs) = refl
+
+own-attributes : (y : ℕ) (c : Content) (m : Node) → own_in y c ≡ Some (by_itself m) → attributes_in c ≡ attributes_of m
+own-attributes y (Element name attributes) m e = ap attributes_of (same_Some (element y name attributes no_nodes) (by_itself m) e) ∙ attributes-itself m
+own-attributes y (Chars cs) m e = ap attributes_of (same_Some (text y cs) (by_itself m) e) ∙ attributes-itself m
+own-attributes y (Free next) m e = absurd (none-some (by_itself m) e)
+
+pub read-attributes : (k : Kept) (x i : ℕ) → IsDoc k x → attributes_in_slot (slot_by_id k i) ≡ attributes_at i (document_in k x).root
+read-attributes k x i d =
+    read-slot k x (tree_in k.slots x) i attributes_in_slot (λ o. unwrap_or (option_map attributes_of o) []) d.tree refl
+    (λ y m s b. own-attributes y s.content m (body-parts y s (body_of m) b).0 ∙ sym (attributes_of-renamed (id_at k.slots) m))
 
 pub read-first : (k : Kept) (x i : ℕ) → IsDoc k x → option_map (id_at k.slots) (target (first_link (slot_by_id k i))) ≡ first_child_of i (document_in k x).root
 read-first k x i d =

@@ -13,3 +13,4 @@ pub mod Releases
 pub mod Builds
 pub mod Docs
 pub mod Loads
+pub mod Values

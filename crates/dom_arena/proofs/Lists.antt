@@ -68,3 +68,8 @@ pub cut-at : {X : Type 0} (xs : List X) (i : ℕ) (x : X) → i < length xs → 
 cut-at [] i x h e = absurd (omega (arith, h))
 cut-at (y ∷ ys) zero x h e = ap (λ z. z ∷ ys) (sym e)
 cut-at (y ∷ ys) (suc i) x h e = ap (λ zs. y ∷ zs) (cut-at ys i x (omega (arith, h)) e)
+
+pub drop-next : {X : Type 0} (xs : List X) (i : ℕ) (x : X) → i < length xs → x ≡ slice_index_or xs i x → drop i xs ≡ x ∷ drop (suc i) xs
+drop-next [] i x h e = absurd (omega (arith, h))
+drop-next (y ∷ ys) zero x h e = ap (λ z. z ∷ ys) (sym e)
+drop-next (y ∷ ys) (suc i) x h e = drop-next ys i x (omega (arith, h)) e

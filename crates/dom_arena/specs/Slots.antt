@@ -1,6 +1,6 @@
 -- What a list of slots says.
 use Rattle.std.specs.Prelude.{◌≡◌, ℕ, ◌==◌, List, [], Bool, true, false, Option, Some, None, IsSome, slice_get, if◌then◌else◌, option_map, option_and_then, unwrap_or}
-use Rattle.page_model.specs.Trees.{Text, Tree, elem, characters, no_trees}
+use Rattle.page_model.specs.Trees.{Attribute, Text, Tree, elem, characters, no_trees}
 use Rattle.page_model.specs.Document.{Node, element, text, no_nodes}
 use Rattle.dom_arena.specs.declared.link.Link.{Link}
 use Rattle.dom_arena.specs.declared.slot.Slot.{Slot}
@@ -81,6 +81,16 @@ abbrev pub name_in : Content → Option Text
 name_in (Element name attributes) = Some name
 name_in (Chars cs) = None
 name_in (Free next) = None
+
+-- the attributes of an element; a text has none
+abbrev pub attributes_in : Content → List Attribute
+attributes_in (Element name attributes) = attributes
+attributes_in (Chars cs) = []
+attributes_in (Free next) = []
+
+abbrev pub attributes_in_slot : Option Slot → List Attribute
+attributes_in_slot None = []
+attributes_in_slot (Some s) = attributes_in s.content
 
 -- the code points of a text
 abbrev pub text_in : Content → Option Text

@@ -1,6 +1,7 @@
 //! The attributes of an element (DOM section 4.9).
-ghost use Rattle.std.specs.Prelude.{◌≡◌, [], IfOk, true};
-ghost use Rattle.page_model.specs.Attributes.{are_in_order};
+ghost use Rattle.std.specs.Prelude.{◌≡◌, [], IfOk, true, option_map, encode_utf8_all};
+ghost use Rattle.std.specs.Str.{chars};
+ghost use Rattle.page_model.specs.Attributes.{are_in_order, value_of};
 
 use port_core::{NoMemory, Text};
 use std::alloc::Global;
@@ -50,6 +51,14 @@ impl Attrs {
         self.list.as_slice()
     }
 
+    /// Returns the value of the attribute `name`.
+    pub fn get(&self, name: &str) -> Option<&str>
+        ensures { option_map (λ s. s.now) result
+            ≡ option_map encode_utf8_all (value_of (chars name.now) self.now) }
+    {
+        value_in(self.as_slice(), name)
+    }
+
     /// Returns a copy of the attributes.
     pub fn copy(&self, alloc: Global) -> Result<Attrs, NoMemory>
         ensures { IfOk result (λ copy. copy ≡ self.now) }
@@ -57,6 +66,18 @@ impl Attrs {
         let list = copy_of(alloc, self.as_slice())?;
         Ok(Attrs { list })
     }
+}
+
+fn value_in<'a>(attributes: &'a [Attribute], name: &str) -> Option<&'a str>
+    ensures { option_map (λ s. s.now) result
+        ≡ option_map encode_utf8_all (value_of (chars name.now) attributes.now) }
+{
+    for (key, value) in attributes {
+        if key.is(name) {
+            return Some(value.as_str());
+        }
+    }
+    None
 }
 
 fn copy_of(alloc: Global, attributes: &[Attribute]) -> Result<Vec<Attribute>, NoMemory>

@@ -1,6 +1,7 @@
 //! The document (DOM sections 1.1 and 4.2.3).
 ghost use Rattle.std.specs.Prelude.{◌≡◌, ◌≤◌, true, IfOk, is_some, encode_utf8_all, option_map};
-ghost use Rattle.page_model.specs.Document.{document, id_of, find, parent_of, first_child_of, next_of, prev_of, name_at, text_at};
+ghost use Rattle.page_model.specs.Document.{document, id_of, find, parent_of, first_child_of, next_of, prev_of, name_at, text_at, value_at};
+ghost use Rattle.std.specs.Str.{chars};
 ghost use Rattle.page_model.specs.declared.limits.TheConstants.{MAX_NODES};
 ghost use Rattle.page_model.specs.Trees.{is_elem};
 ghost use Rattle.page_laws.specs.Limits.{KeepsLimits};
@@ -86,6 +87,14 @@ impl Doc {
             ≡ option_map encode_utf8_all (text_at id self.now.document.root) }
     {
         reading::text(self.store.slot(id))
+    }
+
+    /// Returns the value of the attribute `name` of the element `id`.
+    pub fn attr(&self, id: NodeId, name: &str) -> Option<&str>
+        ensures { option_map (λ s. s.now) result
+            ≡ option_map encode_utf8_all (value_at (chars name.now) id self.now.document.root) }
+    {
+        reading::value(self.store.slot(id), name)
     }
 
     /// Returns the first child of the element `id`.
