@@ -8,6 +8,7 @@ mod doc;
 mod fault;
 mod link;
 mod links;
+mod names;
 mod reading;
 mod release;
 mod slot;
