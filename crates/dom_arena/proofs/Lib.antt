@@ -14,3 +14,5 @@ pub mod Builds
 pub mod Docs
 pub mod Loads
 pub mod Values
+pub mod Measures
+pub mod Shapes

@@ -11,3 +11,4 @@ pub mod Writes
 pub mod Built
 pub mod Docs
 pub mod SeenCode
+pub mod Measures

@@ -11,6 +11,7 @@ mod links;
 mod names;
 mod reading;
 mod release;
+mod sizes;
 mod slot;
 mod store;
 mod tree;

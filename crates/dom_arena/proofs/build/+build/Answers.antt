@@ -1,6 +1,6 @@
-use Rattle.std.proofs.Common.{rules, ◌≡◌, ◌≤◌, ◌+◌, ◌<◌, ◌++◌, ◌∷◌, [], List, ℕ, suc, length, take, drop, map, slice_get, slice_index_or, ap, sym, subst, ◌∙◌, arith}
+use Rattle.std.proofs.Common.{rules, ◌≡◌, ◌≤◌, ◌+◌, ◌<◌, ◌++◌, ◌∷◌, [], List, ℕ, suc, length, take, drop, map, slice_get, ap, sym, subst, ◌∙◌, arith}
 use Rattle.std.specs.Vec.{with_items}
-use Rattle.std.proofs.lemmas.List.{map-append, with_items_is}
+use Rattle.std.proofs.lemmas.List.{with_items_is}
 use Rattle.page_model.specs.Trees as model
 use Rattle.page_model.specs.Trees.{elem, trees_of, size, text_size, depth}
 use Rattle.page_model.specs.declared.limits.TheConstants.{MAX_NODES, MAX_IDS, MAX_TEXTS, MAX_DEPTH}
@@ -12,18 +12,9 @@ use Rattle.dom_arena.specs.Writes.{attached}
 use Rattle.dom_arena.specs.Built.{Built}
 use Rattle.dom_arena.specs.Shape.{shape}
 use Rattle.dom_arena.specs.Views.{kept}
-use Rattle.dom_arena.proofs.Lists.{take-next, cut-at}
+use Rattle.dom_arena.proofs.Shapes.{shapes-cut, shapes-next}
 use Rattle.dom_arena.proofs.Builds.{child-fits, built-child, restored-released, depths-behind, sizes-append}
 use Rattle.dom_arena.proofs.build.+build.Goals as goal
-
--- the children before an index, the child there, and those behind, each as its plain tree
-shapes-cut : (ts : List Tree) (i : ℕ) (t : Tree) → i < length ts → t ≡ slice_index_or ts i t → map shape ts ≡ map shape (take i ts) ++ shape t ∷ map shape (drop (suc i) ts)
-shapes-cut ts i t w e = ap (map shape) (cut-at ts i t w e) ∙ map-append shape (take i ts) (t ∷ drop (suc i) ts)
-
-shapes-next : (ts : List Tree) (i : ℕ) (t : Tree) → i < length ts → t ≡ slice_index_or ts i t → map shape (take (i + 1) ts) ≡ map shape (take i ts) ++ shape t ∷ []
-shapes-next ts i t w e =
-    let one : i + 1 ≡ suc i = omega arith in
-    ap (λ n. map shape (take n ts)) one ∙ (ap (map shape) (take-next ts i t w e) ∙ map-append shape (take i ts) (t ∷ []))
 
 pub build_element-build-requires : goal.build_element-build-requires
 build_element-build-requires t c =
