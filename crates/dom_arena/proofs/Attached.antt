@@ -5,7 +5,6 @@ use Rattle.std.proofs.lemmas.List.{take-append-drop}
 use Rattle.std.proofs.lemmas.Option.{none-some, same_Some}
 use Rattle.dom_arena.proofs.Chains.{chain-attached, chain-same, end-among, front-among}
 use Rattle.dom_arena.specs.Cells.{AreChained, AreLinked, Cells, Hooks, IsLinked, body_with, final, front}
-use Rattle.dom_arena.specs.Reading.{below}
 use Rattle.page_laws.proofs.Find.{among-top, child-below, find-distinct, find-id, find-part, some-among}
 use Rattle.page_laws.proofs.IsAmong.{among-left, among-right}
 use Rattle.page_laws.proofs.Options.{none-or-some}

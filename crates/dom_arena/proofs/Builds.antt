@@ -24,9 +24,9 @@ use Rattle.page_laws.proofs.Spliced.{spliced-among, spliced-part, spliced-rest}
 use Rattle.page_laws.proofs.TreeAfterInsert.{id_of-inserted, spliced-inserted}
 use Rattle.page_laws.proofs.WithIds.{distinct-with_ids, height-with_ids, node_count-with_ids, without-with_ids}
 use Rattle.page_laws.specs.Ids.{AreApart, FitsBelow}
-use Rattle.page_model.specs.Document.{AreDistinct, IsAmong, Node, Nodes, all_ids, all_with_ids, children_of, element, find, first, height, id_of, ids, ids_of, name_of, no_nodes, node, text, with_ids, without_ids}
+use Rattle.page_model.specs.Document.{AreDistinct, IsAmong, Node, Nodes, all_ids, all_with_ids, children_of, element, find, height, id_of, ids, ids_of, name_of, no_nodes, node, text, with_ids, without_ids}
 use Rattle.page_model.specs.Edits.{tree_after_insert, with_child}
-use Rattle.page_model.specs.Trees.{Attribute, Text, Tree, Trees, depth, depths, elem, size, sizes, text_size, text_sizes, tree, trees_of, value_size}
+use Rattle.page_model.specs.Trees.{Attribute, Text, Tree, Trees, depth, depths, elem, size, sizes, text_size, text_sizes, trees_of, value_size}
 use Rattle.page_model.specs.declared.limits.TheConstants.{MAX_DEPTH, MAX_IDS, MAX_NODES, MAX_TEXTS}
 use Rattle.dom_arena.specs.declared.link.Link.{Link}
 use Rattle.dom_arena.specs.declared.slot.Content.{Content}

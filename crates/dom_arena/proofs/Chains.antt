@@ -1,9 +1,9 @@
 -- Chains of siblings that are cut and joined.
-use Rattle.std.proofs.Common.{List, None, Option, Some, [], ap, inl, inr, not, option_map, refl, subst, sym, ℕ, ◌++◌, ◌∙◌, ◌∷◌, ◌≡◌}
+use Rattle.std.proofs.Common.{List, None, Option, Some, [], ap, inl, inr, option_map, refl, subst, sym, ℕ, ◌++◌, ◌∙◌, ◌∷◌, ◌≡◌}
 use Rattle.std.proofs.lemmas.Option.{none-some, same_Some}
 use Rattle.dom_arena.specs.Cells.{AreChained, Hooks, Place, Unhooks, final, front, with_after, with_before}
 use Rattle.page_laws.proofs.IsAmong.{among-left, among-right, distinct-apart, distinct-left, distinct-right}
-use Rattle.page_model.specs.Document.{AreDistinct, IsAmong, after, before, first}
+use Rattle.page_model.specs.Document.{AreDistinct, IsAmong, first}
 
 pub chain-same : (old new : ℕ → Option Place) (up : ℕ) (last : Option ℕ) (xs : List ℕ) (next : Option ℕ) → ((j : ℕ) → IsAmong j xs → new j ≡ old j) → AreChained old up last xs next → AreChained new up last xs next
 chain-same old new up last [] next same h = tt

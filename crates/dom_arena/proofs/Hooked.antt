@@ -13,7 +13,7 @@ use Rattle.dom_arena.specs.Stores.{link_to}
 use Rattle.dom_arena.specs.Writes.{attached, back, changed, detached, forward, one_fewer, one_more, with_first, with_last, with_next, with_place, with_prev}
 use Rattle.page_laws.proofs.IsAmong.{distinct-apart}
 use Rattle.page_laws.specs.Limits.{own_text_size}
-use Rattle.page_model.specs.Document.{AreDistinct, IsAmong, Node, after, before, by_itself, children_of, first, id_of, ids_of}
+use Rattle.page_model.specs.Document.{AreDistinct, IsAmong, Node, by_itself, children_of, first, id_of, ids_of}
 use Rattle.page_model.specs.Trees.{size}
 use Rattle.dom_arena.specs.declared.link.Link.{Link}
 use Rattle.dom_arena.specs.declared.slot.Slot.{Slot}

@@ -9,7 +9,7 @@ use Rattle.dom_arena.specs.Rename.{IsAlone}
 use Rattle.dom_arena.specs.Slots.{IsLive, body_at, body_in, content_at, id_at, is_node, own_in, table_at, target}
 use Rattle.dom_arena.specs.Stores.{FreeChain, IsStore, Kept, free_behind, freed, kept_with, kept_without, leaf, link_to, next_free, no_link, slots_with, slots_without, spot}
 use Rattle.page_laws.proofs.Options.{none-or-some}
-use Rattle.page_model.specs.Document.{AreDistinct, IsAmong, first, ids}
+use Rattle.page_model.specs.Document.{AreDistinct, IsAmong}
 use Rattle.page_model.specs.Trees.{size}
 use Rattle.page_model.specs.declared.limits.TheConstants.{MAX_NODES}
 use Rattle.dom_arena.specs.declared.link.Link.{Link}

@@ -17,7 +17,7 @@ use Rattle.page_laws.proofs.Options.{if-found, or-found}
 use Rattle.page_laws.proofs.WithIds.{element-with_ids, node_count-with_ids, without-with_ids}
 use Rattle.page_laws.specs.Limits.{KeepsLimits}
 use Rattle.page_model.specs.Document.{Document, Node, Nodes, all_ids, document, element, find, find_in, height, ids, name_of, no_nodes, node, node_count, text, with_ids, without_ids}
-use Rattle.page_model.specs.Trees.{Tree, is_elem, size, text_size, tree}
+use Rattle.page_model.specs.Trees.{Tree, is_elem, size, text_size}
 use Rattle.page_model.specs.declared.limits.TheConstants.{MAX_DEPTH, MAX_NODES}
 
 -- ---- no list of children is longer than the tree

@@ -12,13 +12,12 @@ use Rattle.dom_arena.specs.Cells.{AreChained, AreLinked, Body, Cells, IsLinked, 
 use Rattle.dom_arena.specs.Found.{AreFound}
 use Rattle.dom_arena.specs.Slots.{IsLive, body_at, body_in, cells_of, child_number, first_link, id_at, own_in, place_at, place_in, target}
 use Rattle.dom_arena.specs.Stores.{Kept, freed, kept_without, no_link, size_in, slots_without}
-use Rattle.dom_arena.specs.Writes.{back}
 use Rattle.page_laws.proofs.Find.{among-find, among-top, find-id, find-top, find-within, some-among}
 use Rattle.page_laws.proofs.IsAmong.{among-left, among-right, among-split, distinct-apart, distinct-left, distinct-right}
 use Rattle.page_laws.proofs.Options.{none-or-some, some-is}
 use Rattle.page_laws.specs.Limits.{own_text_size}
-use Rattle.page_model.specs.Document.{AreDistinct, IsAmong, Node, Nodes, after, all_ids, all_without_ids, children_of, element, find, first, height, heights, id_of, ids, ids_of, no_nodes, node, nodes_of, text, without_ids}
-use Rattle.page_model.specs.Trees.{size, text_size, text_sizes}
+use Rattle.page_model.specs.Document.{AreDistinct, IsAmong, Node, Nodes, all_ids, all_without_ids, children_of, element, find, first, height, heights, id_of, ids, ids_of, no_nodes, node, nodes_of, text, without_ids}
+use Rattle.page_model.specs.Trees.{text_size, text_sizes}
 use Rattle.dom_arena.specs.declared.link.Link.{Link}
 use Rattle.dom_arena.specs.declared.slot.Slot.{Slot}
 

@@ -1,8 +1,7 @@
 -- A tree under other ids.
-use Rattle.std.proofs.Common.{Bool, List, None, Option, Some, [], ap, ap₂, cond, eq-eqb, eqb-true, false, if◌then◌else◌, inl, inr, map, max, ne_eqb, option_map, refl, suc, sym, true, zero, ℕ, ◌++◌, ◌==◌, ◌∙◌, ◌∷◌, ◌≡◌}
+use Rattle.std.proofs.Common.{Bool, List, None, Option, Some, [], ap, ap₂, cond, eq-eqb, eqb-true, false, inl, inr, map, max, ne_eqb, option_map, refl, suc, sym, true, zero, ℕ, ◌++◌, ◌==◌, ◌∙◌, ◌∷◌, ◌≡◌}
 use Rattle.std.proofs.lemmas.Bool.{cases_Bool, eqb-false}
 use Rattle.std.proofs.lemmas.List.{map-append}
-use Rattle.dom_arena.specs.Reading.{below}
 use Rattle.dom_arena.specs.Rename.{IsAlone, all_renamed, rename}
 use Rattle.page_laws.proofs.Find.{among-children, among-top}
 use Rattle.page_laws.proofs.IsAmong.{among-left, among-right}

@@ -1,5 +1,5 @@
 -- The value of an attribute that is looked up in order.
-use Rattle.std.proofs.Common.{List, Some, ap, arith, drop, length, refl, slice_index_or, subst, suc, sym, true, ℕ, ◌+◌, ◌<◌, ◌∙◌, ◌∷◌, ◌≡◌}
+use Rattle.std.proofs.Common.{List, Some, ap, arith, drop, length, refl, slice_index_or, subst, suc, sym, true, ℕ, ◌+◌, ◌<◌, ◌∙◌, ◌≡◌}
 use Rattle.dom_arena.proofs.Lists.{drop-next}
 use Rattle.page_laws.proofs.AttributesInOrder.{other-text, text-same}
 use Rattle.page_model.specs.Attributes.{is_same_text, value_of}

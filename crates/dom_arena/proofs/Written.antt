@@ -7,8 +7,7 @@ use Rattle.dom_arena.specs.Cells.{Body, Place}
 use Rattle.dom_arena.specs.Slots.{body_at, body_in, content_at, id_at, own_in, place_at, place_in, target}
 use Rattle.dom_arena.specs.Writes.{changed}
 use Rattle.page_laws.proofs.Options.{none-or-some}
-use Rattle.page_model.specs.Document.{Node, first}
-use Rattle.page_model.specs.Trees.{size}
+use Rattle.page_model.specs.Document.{Node}
 use Rattle.dom_arena.specs.declared.slot.Slot.{Slot}
 
 pub get-changed-here : (x : ℕ) (f : Slot → Slot) (slots : List Slot) → slice_get (changed x f slots) x ≡ option_map f (slice_get slots x)

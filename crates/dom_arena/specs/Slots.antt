@@ -1,5 +1,5 @@
 -- What a list of slots says.
-use Rattle.std.specs.Prelude.{◌≡◌, ℕ, ◌==◌, List, [], Bool, true, false, Option, Some, None, IsSome, slice_get, if◌then◌else◌, option_map, option_and_then, unwrap_or}
+use Rattle.std.specs.Prelude.{ℕ, ◌==◌, List, [], Bool, true, false, Option, Some, None, IsSome, slice_get, if◌then◌else◌, option_map, option_and_then, unwrap_or}
 use Rattle.page_model.specs.Trees.{Attribute, Text, Tree, elem, characters, no_trees}
 use Rattle.page_model.specs.Document.{Node, element, text, no_nodes}
 use Rattle.dom_arena.specs.declared.link.Link.{Link}

@@ -1,5 +1,5 @@
 -- What is kept of nodes: slots, the table that leads from ids to them, and the list of free slots.
-use Rattle.std.specs.Prelude.{◌≡◌, ◌⊎◌, ℕ, ◌+◌, ◌-◌, ◌<◌, ◌≤◌, List, [], ◌∷◌, ◌++◌, length, Option, Some, None, slice_get, slice_set, option_map, option_and_then, unwrap_or}
+use Rattle.std.specs.Prelude.{◌≡◌, ◌⊎◌, ℕ, ◌+◌, ◌-◌, ◌<◌, ◌≤◌, List, [], ◌∷◌, ◌++◌, length, Option, Some, None, slice_get, slice_set, option_and_then}
 use Rattle.page_model.specs.Document.{IsAmong, AreDistinct}
 use Rattle.page_model.specs.declared.limits.TheConstants.{MAX_NODES}
 use Rattle.dom_arena.specs.declared.link.Link.{Link}

@@ -1,7 +1,6 @@
-use Rattle.std.proofs.Common.{◌≡◌, ◌∙◌, Some, ap, encode_utf8_all, option_map, rules, sym}
+use Rattle.std.proofs.Common.{◌∙◌, Some, ap, encode_utf8_all, option_map, sym}
 use Rattle.std.proofs.lemmas.Bool.{false≢true}
 use Rattle.std.specs.Str.{chars}
-use Rattle.page_model.specs.Attributes.{value_of}
 use Rattle.dom_arena.proofs.Values.{value-found, value-later}
 use Rattle.dom_arena.proofs.attrs.value_in.Goals as goal
 

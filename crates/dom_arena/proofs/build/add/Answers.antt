@@ -1,4 +1,4 @@
-use Rattle.std.proofs.Common.{rules, ◌≡◌, sym, subst, ◌∙◌, arith, ap}
+use Rattle.std.proofs.Common.{rules, ◌≡◌, sym, subst}
 use Rattle.dom_arena.specs.Slots.{tree_of_content, target}
 use Rattle.dom_arena.specs.Stores.{Kept, kept_with, spot}
 use Rattle.dom_arena.specs.Built.{Built}

@@ -1,4 +1,4 @@
-use Rattle.std.proofs.Common.{◌≡◌, ◌∙◌, ap, arith, sym}
+use Rattle.std.proofs.Common.{◌≡◌, ap, arith}
 use Rattle.page_model.specs.Trees as model
 use Rattle.page_model.specs.Trees.{text_size}
 use Rattle.page_model.specs.Document.{with_ids, without_ids}

@@ -1,6 +1,6 @@
-use Rattle.std.proofs.Common.{rules, slice_get, ◌≡◌, ◌-◌, ◌<◌, ◌+◌, ℕ, suc, List, length, Some, None, sym, subst, ◌∙◌, ap, arith}
-use Rattle.page_model.specs.Trees.{text_size, text_sizes}
-use Rattle.page_model.specs.Document.{Node, nodes_of, ids, all_ids, without_ids, all_without_ids}
+use Rattle.std.proofs.Common.{rules, slice_get, ◌≡◌, ◌-◌, ◌<◌, ◌+◌, ℕ, suc, length, Some, None, sym, subst, arith}
+use Rattle.page_model.specs.Trees.{text_size}
+use Rattle.page_model.specs.Document.{ids, without_ids}
 use Rattle.dom_arena.specs.Built.{Released, IsBranch, after_in}
 use Rattle.dom_arena.specs.Slots.{target, place_at, first_link, child_number}
 use Rattle.dom_arena.specs.Stores.{Kept}

@@ -1,4 +1,4 @@
-use Rattle.std.proofs.Common.{Bool, List, ap, length, min, nat_lt, ℕ, ◌-◌, ◌^◌, ◌∙◌, ◌≡◌}
+use Rattle.std.proofs.Common.{ap, length, min, nat_lt, ◌-◌, ◌^◌, ◌∙◌, ◌≡◌}
 use Rattle.std.specs.List.{list_any}
 use Rattle.page_model.specs.Trees.{Attribute, is_badly_named, is_long, value_size}
 use Rattle.page_model.specs.declared.limits.TheConstants.{MAX_ATTRIBUTES}
