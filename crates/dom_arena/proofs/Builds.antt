@@ -345,9 +345,16 @@ pub child-fits : (a b : Kept) (name : Text) (attributes : List Attribute) (xs : 
     → depth (elem name attributes (trees_of (xs ++ y ∷ ys))) ≤ MAX_DEPTH
     → IsStore b × ((b.live + size y ≤ MAX_NODES) × ((length b.table + size y ≤ MAX_IDS) × ((b.code_points + text_size y ≤ MAX_TEXTS) × (depth y ≤ MAX_DEPTH))))
 child-fits a b name attributes xs y ys p r nodes given points low =
-    let deep = depths-behind xs y ys in
-    (r.store, (omega (arith, nodes, r.live, sizes-append xs y ys), (omega (arith, given, r.given, sizes-append xs y ys),
-        (omega (arith, points, r.code_points, points-append xs y ys), omega (arith, low, deep.0)))))
+    let deep = depths-behind xs y ys in (
+      r.store,
+      (
+        omega (arith, nodes, r.live, sizes-append xs y ys),
+        (
+          omega (arith, given, r.given, sizes-append xs y ys),
+          (omega (arith, points, r.code_points, points-append xs y ys), omega (arith, low, deep.0)),
+        ),
+      ),
+    )
 
 -- what was built can be released, also after a later tree was given up
 pub built-branch : (a b c : Kept) (t : Tree) (s levels : ℕ) (r : Built a b t s) → Restored b c → depth t ≤ levels → IsBranch c s levels r.built

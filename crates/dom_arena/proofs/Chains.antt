@@ -82,4 +82,4 @@ chain-detached old new up i xs ys d k h =
     chain-join new up None xs ys None
     (chain-next old new up None xs (Some i) (front ys None) (distinct-left xs (i ∷ ys) d) k.before (λ j a e. k.others j (λ f. apart j a (inl f)) e (λ f. apart j a (inr (front-among j ys f)))) cut.0)
     (chain-last old new up (Some i) (final None xs) ys None right.1 k.after
-        (λ j a e. k.others j (λ f. right.0 (subst (λ (m : ℕ). IsAmong m ys) f a)) (λ f. apart j (end-among j xs f) (inr a)) e) cut.1.1)
+    (λ j a e. k.others j (λ f. right.0 (subst (λ (m : ℕ). IsAmong m ys) f a)) (λ f. apart j (end-among j xs f) (inr a)) e) cut.1.1)

@@ -51,10 +51,12 @@ tree-alone k x n h y a = alone-live k y (ids n) h.store (tree-live k x n h y a) 
 given-ids : (k : Kept) (x : ℕ) (n : Node) → HoldsTree k x n → HasGivenIds (record { root = rename (id_at k.slots) n; next_id = length k.table })
 given-ids k x n h =
     let f : ℕ → ℕ = id_at k.slots in
-    let same : ids (rename f n) ≡ map f (ids n) = ids-renamed f n in
-    (subst AreDistinct (sym same) (distinct-map f (ids n) h.distinct (tree-alone k x n h)), λ i a.
-        let y = map-found f i (ids n) (subst (IsAmong i) same a) in
-        subst (λ (j : ℕ). j < length k.table) (sym y.1.1) (id-given k y.0 h.store (tree-live k x n h y.0 y.1.0)))
+    let same : ids (rename f n) ≡ map f (ids n) = ids-renamed f n in (
+      subst AreDistinct (sym same) (distinct-map f (ids n) h.distinct (tree-alone k x n h)),
+      λ i a.
+          let y = map-found f i (ids n) (subst (IsAmong i) same a) in
+          subst (λ (j : ℕ). j < length k.table) (sym y.1.1) (id-given k y.0 h.store (tree-live k x n h y.0 y.1.0)),
+    )
 
 pub doc-facts : (k : Kept) (x : ℕ) → IsDoc k x → IsDocument (document_in k x)
 doc-facts k x d = record {

@@ -151,12 +151,18 @@ free-with k l s = by-free k.free (target k.free) s.free refl s.chain s.once s.co
         × (length xs + (k.live + 1) ≡ length (slots_with k.slots o l)) × ((x : ℕ) → IsAmong x xs → x ≡ spot k.slots o → ⊥)
         × ((x : ℕ) → x < length (slots_with k.slots o l) → (x ≡ spot k.slots o → ⊥) → IsLive k.slots x ⊎ IsAmong x xs)
         × (length (slots_with k.slots o l) ≤ max (length k.slots) (k.live + 1))
-    by-free free None [] e c d n all =
-        ([], e, tt, omega (arith, n, length-push k.slots l), (λ x a q. a),
-        (λ x w q. elim (cases_lt x (length k.slots)) [
-          | inl v ↦ all x v
-          | inr v ↦ absurd (q (omega (arith, v, w, length-push k.slots l)))
-        ]), omega (arith, n, length-push k.slots l))
+    by-free free None [] e c d n all = (
+      [],
+      e,
+      tt,
+      omega (arith, n, length-push k.slots l),
+      (λ x a q. a),
+      (λ x w q. elim (cases_lt x (length k.slots)) [
+        | inl v ↦ all x v
+        | inr v ↦ absurd (q (omega (arith, v, w, length-push k.slots l)))
+      ]),
+      omega (arith, n, length-push k.slots l),
+    )
     by-free free None (y ∷ ys) e c d n all = absurd (none-some y c.0)
     by-free free (Some x) [] e c d n all = absurd (none-some x (sym c))
     by-free free (Some x) (y ∷ ys) e c d n all =
@@ -165,13 +171,19 @@ free-with k l s = by-free k.free (target k.free) s.free refl s.chain s.once s.co
         let len : length (slice_set k.slots x l) ≡ length k.slots = length-slice_set k.slots x l in
         let apart : (z : ℕ) → IsAmong z ys → z ≡ x → ⊥ = λ z a q. d.0 (subst (λ (w : ℕ). IsAmong w ys) (q ∙ same) a) in
         let chain : FreeChain (slice_set k.slots x l) (target c.1.0) ys =
-        chain-same-contents k.slots (slice_set k.slots x l) (target c.1.0) ys (λ z a. ap (option_map (λ (s : Slot). s.content)) (get-set-other k.slots x z l (apart z a))) c.1.2 in
-        (ys, subst (λ (f : Link). FreeChain (slice_set k.slots x l) (target f) ys) (sym behind) chain, d.1, omega (arith, n, len), apart,
-        (λ z w q. elim (all z (omega (arith, w, len))) [
-          | inl v ↦ inl v
-          | inr (inl v) ↦ absurd (q (v ∙ sym same))
-          | inr (inr v) ↦ inr v
-        ]), omega (arith, len))
+        chain-same-contents k.slots (slice_set k.slots x l) (target c.1.0) ys (λ z a. ap (option_map (λ (s : Slot). s.content)) (get-set-other k.slots x z l (apart z a))) c.1.2 in (
+          ys,
+          subst (λ (f : Link). FreeChain (slice_set k.slots x l) (target f) ys) (sym behind) chain,
+          d.1,
+          omega (arith, n, len),
+          apart,
+          (λ z w q. elim (all z (omega (arith, w, len))) [
+            | inl v ↦ inl v
+            | inr (inl v) ↦ absurd (q (v ∙ sym same))
+            | inr (inr v) ↦ inr v
+          ]),
+          omega (arith, len),
+        )
 
 leaf-live : (slots : List Slot) (x : ℕ) (id size : ℕ) (content : Content) → is_node (Some content) ≡ true → slice_get slots x ≡ Some (leaf id content size) → IsLive slots x
 leaf-live slots x id size content n e = live-by-content slots x ∙ (ap (λ o. is_node (option_map (λ (s : Slot). s.content) o)) e ∙ n)
@@ -284,7 +296,6 @@ store-without k x s h one =
       ];
       few = omega (arith, s.few, len);
     }
-
 
 -- the first free slot is there
 pub free-within : (k : Kept) (x : ℕ) → IsStore k → target k.free ≡ Some x → x < length k.slots

@@ -66,11 +66,13 @@ pub tree-doc : (k : Kept) (x : ℕ) (n : Node) → HoldsTree k x n → KeepsLimi
 tree-doc k x n h limits =
     let f : ℕ → ℕ = id_at k.slots in
     let long : length (ids (rename f n)) ≡ length (ids n) = ap length (ids-renamed f n) ∙ map-length f (ids n) in
-    let same : tree_in k.slots x ≡ n = tree-read k x n h (omega (arith, long, limits.few)) (omega (arith, height-renamed f n, limits.low)) in
-    (ap (document_of k) same, record {
-      tree = subst (HoldsTree k x) (sym same) h;
-      limits = subst (λ (m : Node). KeepsLimits (document_of k m)) (sym same) limits;
-    })
+    let same : tree_in k.slots x ≡ n = tree-read k x n h (omega (arith, long, limits.few)) (omega (arith, height-renamed f n, limits.low)) in (
+      ap (document_of k) same,
+      record {
+        tree = subst (HoldsTree k x) (sym same) h;
+        limits = subst (λ (m : Node). KeepsLimits (document_of k m)) (sym same) limits;
+      },
+    )
 
 -- ---- a tree that was built beside nothing
 

@@ -54,6 +54,7 @@ AreFew many root = (i : ℕ) (n : Node) → find i root ≡ Some n → length (i
 
 mutual
   unfolding below
+
   pub below-linked : (c : Cells) (root : Node) (many k : ℕ) (n : Node) → AreDistinct (ids root) → AreLinked c root → AreFew many root → find (id_of n) root ≡ Some n → height n ≤ k → below c many k (id_of n) ≡ n
   below-linked c root many zero (element id name attributes children) d h few f l = absurd (omega (arith, l))
   below-linked c root many zero (text id cs) d h few f l = absurd (omega (arith, l))

@@ -72,14 +72,23 @@ Going old new at index ns =
     × Released old new (all_ids (nodes_of done)) (text_sizes (all_without_ids (nodes_of done))))
 
 pub going-none : (k : Kept) (at : Option ℕ) (levels : ℕ) (ns : List Node) → AreBranches k at levels ns → Going k k at 0 ns
-going-none k at levels ns b = ([], (ns, refl, refl, b.first, record {
-  store = b.store;
-  gone = λ x a h. a;
-  others = λ x a. refl;
-  given = refl;
-  live = omega arith;
-  code_points = omega arith;
-}))
+going-none k at levels ns b = (
+  [],
+  (
+    ns,
+    refl,
+    refl,
+    b.first,
+    record {
+      store = b.store;
+      gone = λ x a h. a;
+      others = λ x a. refl;
+      given = refl;
+      live = omega arith;
+      code_points = omega arith;
+    },
+  ),
+)
 
 -- the tree that is released next
 pub going-branch : (old new : Kept) (first at : Option ℕ) (levels x : ℕ) (done : List Node) (y : Node) (ys : List Node) → AreBranches old first levels (done ++ y ∷ ys)
@@ -150,10 +159,16 @@ going-more a b c first at levels index x ns br g w is step = by-rest g.0 g.1.0 g
         let both = released-then a b c (all_ids (nodes_of done)) (ids y) (text_sizes (all_without_ids (nodes_of done))) (text_size (without_ids y)) r s apart in
         let more : all_ids (nodes_of (done ++ y ∷ [])) ≡ all_ids (nodes_of done) ++ ids y = all_ids-append done (y ∷ []) ∙ ap (λ zs. all_ids (nodes_of done) ++ zs) (append-nil (ids y)) in
         let points : text_sizes (all_without_ids (nodes_of (done ++ y ∷ []))) ≡ text_sizes (all_without_ids (nodes_of done)) + text_size (without_ids y) =
-        let q = text_sizes-append done (y ∷ []) in omega (arith, q) in
-        (done ++ y ∷ [], (ys, e ∙ sym (append_assoc done (y ∷ []) ys), omega (arith, n, length-append done (y ∷ [])),
+        let q = text_sizes-append done (y ∷ []) in omega (arith, q) in (
+          done ++ y ∷ [],
+          (
+            ys,
+            e ∙ sym (append_assoc done (y ∷ []) ys),
+            omega (arith, n, length-append done (y ∷ [])),
             ap (λ z. after_in (place_at b.slots z)) (sym branch.at) ∙ going-next a b first levels done y ys br2 r,
-            subst (λ (zs : List ℕ). Released a c zs (text_sizes (all_without_ids (nodes_of (done ++ y ∷ []))))) (sym more) (subst (λ (m : ℕ). Released a c (all_ids (nodes_of done) ++ ids y) m) (sym points) both)))
+            subst (λ (zs : List ℕ). Released a c zs (text_sizes (all_without_ids (nodes_of (done ++ y ∷ []))))) (sym more) (subst (λ (m : ℕ). Released a c (all_ids (nodes_of done) ++ ids y) m) (sym points) both),
+          ),
+        )
 
 -- all siblings are released
 pub going-all : (a b : Kept) (at : Option ℕ) (index : ℕ) (ns : List Node) → Going a b at index ns → length ns ≤ index → Released a b (all_ids (nodes_of ns)) (text_sizes (all_without_ids (nodes_of ns)))

@@ -52,8 +52,15 @@ link_to x = record { raw = x }
 -- a node that has neither parent nor children
 abbrev pub leaf : ℕ → Content → ℕ → Slot
 leaf id content size = record {
-  id = id; parent = no_link; prev = no_link; next = no_link; first = no_link; last = no_link;
-  children = 0; size = size; content = content;
+  id = id;
+  parent = no_link;
+  prev = no_link;
+  next = no_link;
+  first = no_link;
+  last = no_link;
+  children = 0;
+  size = size;
+  content = content;
 }
 
 -- the free slot after this content

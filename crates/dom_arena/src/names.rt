@@ -13,7 +13,14 @@ use page_model::{MAX_NAME, MAX_TEXT};
 fn is_name_code_point(c: char) -> bool
     ensures { result ≡ names.is_name_code_point c }
 {
-    c > ' ' && c != '\u{7f}' && c != '"' && c != '\'' && c != '<' && c != '>' && c != '/' && c != '='
+    c > ' '
+        && c != '\u{7f}'
+        && c != '"'
+        && c != '\''
+        && c != '<'
+        && c != '>'
+        && c != '/'
+        && c != '='
 }
 
 fn are_name_code_points(name: &str) -> bool

@@ -52,7 +52,7 @@ pub fn release_tree(store: &mut Store, at: u32, levels: u32)
 fn release_children(store: &mut Store, first: Link, count: u32, levels: u32)
     ensures { (ns : List Node) → AreBranches (kept store.old) (target first) levels ns → length ns ≡ count
         → Released (kept store.old) (kept store.new) (all_ids (nodes_of ns))
-            (text_sizes (all_without_ids (nodes_of ns))) }
+        (text_sizes (all_without_ids (nodes_of ns))) }
 {
     let mut at = first;
     for index in 0..count {

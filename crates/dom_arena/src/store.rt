@@ -164,11 +164,7 @@ impl Store {
         let id = self.table.len() as u32;
         let at = next_spot(self.slots.as_slice(), self.free);
         self.table.push(Link::to(at))?;
-        match put(
-            &mut self.slots,
-            &mut self.free,
-            new_leaf(id, content, size),
-        ) {
+        match put(&mut self.slots, &mut self.free, new_leaf(id, content, size)) {
             Ok(at) => {
                 self.live += 1;
                 self.code_points += size;

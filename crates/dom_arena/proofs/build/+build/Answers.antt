@@ -24,12 +24,14 @@ build_element-build-requires t c =
     let cut : map shape ts ≡ map shape (take i ts) ++ shape child ∷ map shape (drop (suc i) ts) = shapes-cut ts i child c.loop-i-test.true c.index-children-i.is in
     let k : Kept = kept c.args.store.now in
     let all : size (elem c.args.name.now c.args.attributes.now (trees_of (map shape ts))) ≡ size (elem c.args.name.now c.args.attributes.now (trees_of (map shape (take i ts) ++ shape child ∷ map shape (drop (suc i) ts)))) =
-    ap (λ zs. size (elem c.args.name.now c.args.attributes.now (trees_of zs))) cut in
-    (omega (arith, all, sizes-append (map shape (take i ts)) (shape child) (map shape (drop (suc i) ts))), child-fits k (kept c.loop-i.store) c.args.name.now c.args.attributes.now (map shape (take i ts)) (shape child) (map shape (drop (suc i) ts)) c.in_ok-at.at c.loop-i.invariant
-    (subst (λ (zs : List model.Tree). k.live + size (elem c.args.name.now c.args.attributes.now (trees_of zs)) ≤ MAX_NODES) cut c.requires.nodes)
-    (subst (λ (zs : List model.Tree). length k.table + size (elem c.args.name.now c.args.attributes.now (trees_of zs)) ≤ MAX_IDS) cut c.requires.ids)
-    (subst (λ (zs : List model.Tree). k.code_points + text_size (elem c.args.name.now c.args.attributes.now (trees_of zs)) ≤ MAX_TEXTS) cut c.requires.code_points)
-    (subst (λ (zs : List model.Tree). depth (elem c.args.name.now c.args.attributes.now (trees_of zs)) ≤ MAX_DEPTH) cut c.requires.low))
+    ap (λ zs. size (elem c.args.name.now c.args.attributes.now (trees_of zs))) cut in (
+      omega (arith, all, sizes-append (map shape (take i ts)) (shape child) (map shape (drop (suc i) ts))),
+      child-fits k (kept c.loop-i.store) c.args.name.now c.args.attributes.now (map shape (take i ts)) (shape child) (map shape (drop (suc i) ts)) c.in_ok-at.at c.loop-i.invariant
+          (subst (λ (zs : List model.Tree). k.live + size (elem c.args.name.now c.args.attributes.now (trees_of zs)) ≤ MAX_NODES) cut c.requires.nodes)
+          (subst (λ (zs : List model.Tree). length k.table + size (elem c.args.name.now c.args.attributes.now (trees_of zs)) ≤ MAX_IDS) cut c.requires.ids)
+          (subst (λ (zs : List model.Tree). k.code_points + text_size (elem c.args.name.now c.args.attributes.now (trees_of zs)) ≤ MAX_TEXTS) cut c.requires.code_points)
+          (subst (λ (zs : List model.Tree). depth (elem c.args.name.now c.args.attributes.now (trees_of zs)) ≤ MAX_DEPTH) cut c.requires.low),
+    )
 
 pub build_element-returns-in-Err-clause-restored : goal.build_element-returns-in-Err-clause-restored
 build_element-returns-in-Err-clause-restored t c =

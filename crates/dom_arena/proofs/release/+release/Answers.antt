@@ -20,7 +20,7 @@ release_children-loop-index-preserved t c = λ ns b e.
     let within : c.loop-index.index < length ns = omega (arith, c.loop-index-test.true, e) in
     subst (λ (o : _). Going (kept c.args.store.now) (kept c.release_tree.new.store) o (c.loop-index.index + 1) ns) (sym next)
     (going-more (kept c.args.store.now) (kept c.loop-index.store) (kept c.release_tree.new.store) (target c.args.first) (target c.loop-index.at) c.args.levels c.loop-index.index c.in-Some.child ns b
-        (c.loop-index.invariant ns b e) within some c.release_tree.ensures)
+    (c.loop-index.invariant ns b e) within some c.release_tree.ensures)
 
 pub release_children-returns : goal.release_children-returns
 release_children-returns t c = λ ns b e.
@@ -32,7 +32,7 @@ release_tree-returns-then-at-len t c = λ n b.
     let first : c.children_of-count.result.0 ≡ first_link (slice_get c.args.store.now.slots.items c.args.at) = search rules in
     let count : c.children_of-count.result.1 ≡ child_number (slice_get c.args.store.now.slots.items c.args.at) = search rules in
     let done = tree-released (kept c.args.store.now) (kept c.release_children.new.store) c.args.at (c.args.levels - 1) _ _ n (subst (λ (k : ℕ). IsBranch (kept c.args.store.now) c.args.at k n) l b)
-        first count c.release_children.ensures in
+    first count c.release_children.ensures in
     subst (λ (k : Kept). Released (kept c.args.store.now) k (ids n) (text_size (without_ids n))) (sym c.release.ensures) done.1
 
 pub release_tree-returns-else-at-len : goal.release_tree-returns-else-at-len
@@ -41,5 +41,5 @@ release_tree-returns-else-at-len t c = λ n b.
     let first : c.children_of-count.result.0 ≡ first_link (slice_get c.args.store.now.slots.items c.args.at) = search rules in
     let count : c.children_of-count.result.1 ≡ child_number (slice_get c.args.store.now.slots.items c.args.at) = search rules in
     let done = tree-released (kept c.args.store.now) (kept c.release_children.new.store) c.args.at (c.args.levels - 1) _ _ n (subst (λ (k : ℕ). IsBranch (kept c.args.store.now) c.args.at k n) l b)
-        first count c.release_children.ensures in
+    first count c.release_children.ensures in
     absurd (omega (arith, done.0, c.if-at-len.false, c.len.ensures))
