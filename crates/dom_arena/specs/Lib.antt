@@ -1,6 +1,14 @@
+pub mod Cells
+pub mod Rename
+pub mod Found
+pub mod Reading
+pub mod Slots
 pub mod Shape
 pub mod Faults
-pub mod Table
-pub mod Rows
+pub mod Stores
+pub mod Views
 pub mod Writes
-pub mod Children
+pub mod Built
+pub mod Docs
+pub mod SeenCode
+pub mod Measures

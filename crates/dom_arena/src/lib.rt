@@ -1,18 +1,23 @@
-//! The document: a tree of elements and texts kept by number.
+//! The document: a tree of elements and texts in linked slots (DOM section 1.1, 4.2.3).
 #![tactic(auto)]
 
-mod child_ids;
-mod children;
-mod copies;
+mod attrs;
+mod build;
+mod counts;
 mod doc;
-mod edits;
 mod fault;
 mod limits;
+mod link;
+mod links;
+mod names;
+mod reading;
+mod release;
+mod sizes;
 mod slot;
-mod table;
+mod store;
 mod tree;
 
-pub use children::Children;
+pub use attrs::{Attribute, Attrs};
 pub use doc::Doc;
 pub use fault::DocFault;
-pub use tree::{Attribute, Attributes as Attrs, Tree};
+pub use tree::Tree;
