@@ -9,7 +9,9 @@ pub mod TreeAfterInsert
 pub mod TreeAfterRemove
 pub mod DocumentAfterInsert
 pub mod DocumentAfterRemove
+pub mod FirstOf
 pub mod BrokenLimits
+pub mod KeptLimits
 pub mod Siblings
 pub mod TreeAfterMove
 pub mod TreeAfterChange

@@ -1,35 +1,34 @@
 -- A document that an edit leaves breaks no limit.
 use Rattle.std.proofs.Common.{Bool, IsSome, List, None, Option, Some, [], ap, arith, false, inl, inr, is_none, length, length-append, ltb-false, nat_lt, refl, sym, true, ℕ, ◌==◌, ◌||◌, ◌∙◌, ◌∷◌, ◌≡◌, ◌≤◌}
 use Rattle.std.proofs.lemmas.Bool.{cases_Bool}
-use Rattle.page_laws.proofs.BrokenLimits.{grammar-limits, insert-refused, load-grammar, load-refused}
+use Rattle.page_laws.proofs.BrokenLimits.{insert-refused, load-refused}
 use Rattle.page_laws.proofs.Options.{or-false}
 use Rattle.page_laws.specs.ChildLists.{IsPlace}
 use Rattle.page_laws.specs.Ids.{HasGivenIds}
-use Rattle.page_laws.specs.Limits.{KeepsLimits, broken_grammar, broken_limits}
+use Rattle.page_laws.specs.Limits.{KeepsLimits, broken_grammar, broken_limits, broken_sizes}
 use Rattle.page_model.specs.Document.{Document, Node, Nodes, all_ids, all_without_ids, document, element, find, height, heights, id_of, ids, name_at, no_nodes, node, node_count, text, without_ids}
-use Rattle.page_model.specs.Edits.{child_count, document_after_insert, document_after_remove, insert_causes, load_causes, nodes_after_remove, nothing_taken, taken_below, tree_after_remove, tree_causes}
+use Rattle.page_model.specs.Edits.{child_count, document_after_insert, document_after_remove, insert_causes, load_causes, nodes_after_remove, taken_below, tree_after_remove, tree_causes}
 use Rattle.page_model.specs.Refusals.{Causes, first_of}
 use Rattle.page_model.specs.Trees.{Attribute, Text, Tree, has_bad_name, has_long_text, has_many_attributes, has_node, have_node, is_badly_named, is_long, text_size, text_sizes}
 use Rattle.page_model.specs.declared.limits.TheConstants.{MAX_ATTRIBUTES, MAX_DEPTH, MAX_IDS, MAX_NODES, MAX_TEXTS}
 use Rattle.page_model.specs.declared.cause.Cause.TheVariants.{AttrLimit, BadIndex, BadName, DepthLimit, IdLimit, NoNode, NodeLimit, NotElement, TextLimit}
-use Rattle.reply_laws.proofs.FirstOf.{both-false, first-false}
-use Rattle.reply_laws.proofs.IsPlain.{grammar-none}
-use Rattle.request_model.specs.States.{is_plain}
+use Rattle.page_laws.proofs.FirstOf.{append-none, both-false, first-false}
 use Rattle.std.specs.List.{list_any}
 
 -- ---- where no limit is broken
 
-pub kept-limits : (d : Document) → first_of (broken_grammar d) ≡ None → first_of (broken_limits d) ≡ None → KeepsLimits d
-kept-limits d g h =
+pub kept-limits : (d : Document) → first_of (broken_limits d) ≡ None → KeepsLimits d
+kept-limits d none =
+    let parts = append-none (broken_grammar d) (broken_sizes d) none in
     let texts : Causes = (has_long_text (without_ids d.root) || nat_lt MAX_TEXTS (text_size (without_ids d.root)), TextLimit) ∷ [] in
     let attributes : Causes = (has_many_attributes (without_ids d.root), AttrLimit) ∷ texts in
-    let a = first-false (has_bad_name (without_ids d.root)) BadName attributes g in
+    let a = first-false (has_bad_name (without_ids d.root)) BadName attributes parts.0 in
     let b = first-false (has_many_attributes (without_ids d.root)) AttrLimit texts a.1 in
     let c = first-false (has_long_text (without_ids d.root) || nat_lt MAX_TEXTS (text_size (without_ids d.root))) TextLimit [] b.1 in
     let long = or-false (has_long_text (without_ids d.root)) (nat_lt MAX_TEXTS (text_size (without_ids d.root))) c.0 in
     let ids : Causes = (nat_lt MAX_IDS d.next_id, IdLimit) ∷ [] in
     let nodes : Causes = (nat_lt MAX_NODES (node_count d.root), NodeLimit) ∷ ids in
-    let deep = first-false (nat_lt MAX_DEPTH (height d.root)) DepthLimit nodes h in
+    let deep = first-false (nat_lt MAX_DEPTH (height d.root)) DepthLimit nodes parts.1 in
     let many = first-false (nat_lt MAX_NODES (node_count d.root)) NodeLimit ids deep.1 in
     let high = first-false (nat_lt MAX_IDS d.next_id) IdLimit [] many.1 in
     record {
@@ -42,9 +41,8 @@ kept-limits d g h =
 
 -- ---- after an edit that no cause refuses
 
-pub kept-loaded : (t : Tree) → is_plain t ≡ true → first_of (load_causes t) ≡ None → KeepsLimits (document t)
-kept-loaded t plain h =
-    kept-limits (document t) (sym (ap first_of (load-grammar t)) ∙ grammar-none nothing_taken t plain (omega arith)) (sym (load-refused t) ∙ h)
+pub kept-loaded : (t : Tree) → first_of (load_causes t) ≡ None → KeepsLimits (document t)
+kept-loaded t h = kept-limits (document t) (sym (load-refused t) ∙ h)
 
 some-there : (o : Option Text) → is_none o ≡ false → IsSome o
 some-there (Some x) h = refl
@@ -60,13 +58,11 @@ place-of_insert parent index t d given h =
     let c = first-false (nat_lt (child_count parent d.root) index) BadIndex limits b.1 in
     ((given, some-there (name_at parent d.root) b.0), ltb-false (child_count parent d.root) index c.0)
 
-pub kept-inserted : (parent index : ℕ) (t : Tree) (d : Document) → HasGivenIds d → KeepsLimits d → is_plain t ≡ true → first_of (insert_causes parent index t d) ≡ None
+pub kept-inserted : (parent index : ℕ) (t : Tree) (d : Document) → HasGivenIds d → KeepsLimits d → first_of (insert_causes parent index t d) ≡ None
     → KeepsLimits (document_after_insert parent index t d)
-kept-inserted parent index t d given keeps plain h =
-    let place : IsPlace parent index d = place-of_insert parent index t d given h in
+kept-inserted parent index t d given keeps h =
     kept-limits (document_after_insert parent index t d)
-    (sym (ap first_of (grammar-limits parent index t d place.0 keeps.grammar)) ∙ grammar-none (taken_below parent d) t plain keeps.code_points)
-    (sym (insert-refused parent index t d place keeps.low) ∙ h)
+    (sym (insert-refused parent index t d (place-of_insert parent index t d given h) keeps) ∙ h)
 
 -- ---- less is left after a remove
 
