@@ -183,11 +183,11 @@ pub map-length : (f : ℕ → ℕ) (xs : List ℕ) → length (map f xs) ≡ len
 map-length f [] = refl
 map-length f (x ∷ xs) = ap suc (map-length f xs)
 
-take-whole : (xs : List ℕ) → take (length xs) xs ≡ xs
+pub take-whole : (xs : List ℕ) → take (length xs) xs ≡ xs
 take-whole [] = refl
 take-whole (x ∷ xs) = ap (λ ys. x ∷ ys) (take-whole xs)
 
-drop-whole : (xs : List ℕ) → drop (length xs) xs ≡ []
+pub drop-whole : (xs : List ℕ) → drop (length xs) xs ≡ []
 drop-whole [] = refl
 drop-whole (x ∷ xs) = drop-whole xs
 

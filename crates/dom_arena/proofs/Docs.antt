@@ -191,7 +191,7 @@ or-false false b e = (refl, e)
 
 mutual
   -- a node that no other has among its children is the root
-  top-alone : (y : ℕ) (n : Node) → IsAmong y (ids n) → parent_in y n ≡ None → y ≡ id_of n
+  pub top-alone : (y : ℕ) (n : Node) → IsAmong y (ids n) → parent_in y n ≡ None → y ≡ id_of n
   top-alone y (element id name attributes children) (inl e) none = e
   top-alone y (element id name attributes children) (inr a) none = elim (cases_Bool (is_among y (ids_of children))) [
     | inl t ↦ absurd (none-some (element id name attributes children) (sym (rw t at none)))

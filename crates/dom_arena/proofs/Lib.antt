@@ -16,3 +16,6 @@ pub mod Loads
 pub mod Values
 pub mod Measures
 pub mod Shapes
+pub mod Refused
+pub mod Climbs
+pub mod Walks

@@ -11,7 +11,7 @@ use Rattle.page_model.specs.Document.{AreDistinct, IsAmong, Node, Nodes, after, 
 
 -- ---- places
 
-front-first : (xs : List ℕ) → front xs None ≡ first xs
+pub front-first : (xs : List ℕ) → front xs None ≡ first xs
 front-first [] = refl
 front-first (x ∷ xs) = refl
 

@@ -3,6 +3,8 @@ use Rattle.std.specs.Prelude.{◌+◌, ◌-◌, ◌^◌, ◌||◌, List, false, 
 use Rattle.std.specs.List.{list_any}
 use Rattle.page_model.specs.Trees.{Attribute, Text, Tree, Trees, depth, depths, has_bad_name, has_long_text, has_many_attributes, have_node, is_badly_named, is_long, size, sizes, text_size, text_sizes, value_size}
 use Rattle.page_model.specs.declared.limits.TheConstants.{MAX_ATTRIBUTES}
+use Rattle.page_model.specs.Edits.{Taken}
+use Rattle.dom_arena.specs.declared.limits.Taken as counted
 use Rattle.dom_arena.specs.declared.sizes.Measured.{Measured}
 
 abbrev pub measure_of : Tree → Measured
@@ -53,3 +55,7 @@ one_level_more m = record m { levels = min (m.levels + 1) (2 ^ 32 - 1) }
 -- what an element has, the children of which have `below`
 abbrev pub with_element : Text → List Attribute → Measured → Measured
 with_element name attributes below = one_level_more (joined (own_measures name attributes) below)
+
+-- what is taken of the limits
+abbrev pub taken_of : counted.Taken → Taken
+taken_of t = record { level = t.level; nodes = t.nodes; ids = t.ids; code_points = t.code_points }

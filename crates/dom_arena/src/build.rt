@@ -23,7 +23,7 @@ use port_core::{NoMemory, Text};
 use std::alloc::Global;
 
 /// Returns the last child of the node in the slot `at`.
-fn last_of(slots: &[Slot], at: u32) -> Link
+pub fn last_of(slots: &[Slot], at: u32) -> Link
     ensures { result ≡ last_link (slice_get slots.now at) }
 {
     match slots.get(at as usize) {

@@ -6,9 +6,13 @@ ghost use Rattle.page_model.specs.declared.limits.TheConstants.{MAX_NODES};
 ghost use Rattle.page_model.specs.Trees.{is_elem};
 ghost use Rattle.page_laws.specs.Limits.{KeepsLimits};
 ghost use Rattle.dom_arena.specs.Docs.{IsDocument};
+ghost use Rattle.dom_arena.specs.Faults.{AnswersBy};
+ghost use Rattle.page_model.specs.Edits.{load_causes};
 ghost use Rattle.dom_arena.specs.Shape.{shape};
 
 use crate::build::build;
+use crate::fault::DocFault;
+use crate::limits::{self, Taken};
 use crate::reading;
 use crate::store::Store;
 use crate::tree::Tree;
@@ -42,6 +46,21 @@ impl Model for Doc {
 }
 
 impl Doc {
+    /// Makes the document of a tree, the nodes of which get the ids from 0 on in document order.
+    ///
+    /// # Errors
+    ///
+    /// The first limit that the tree would break: `BadName`, `AttrLimit`, `TextLimit`, `DepthLimit`,
+    /// `NodeLimit`, `IdLimit`; or `NoMemory`. Its time is linear in the code points of the tree.
+    pub fn new(alloc: Global, tree: &Tree) -> Result<Doc, DocFault>
+        requires element { is_elem (shape tree.now) ≡ true }
+        ensures document { IfOk result (λ doc. doc.document ≡ document (shape tree.now)) }
+        ensures causes { AnswersBy (load_causes (shape tree.now)) result }
+    {
+        limits::check(tree, Taken::nothing())?;
+        Ok(load(alloc, tree)?)
+    }
+
     /// Returns the id of the root.
     pub fn root(&self) -> NodeId
         ensures value { result ≡ id_of self.now.document.root }

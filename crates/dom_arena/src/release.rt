@@ -21,7 +21,7 @@ pub fn next_of(slots: &[Slot], at: u32) -> Link
 }
 
 /// Returns the first child and the number of children of the node in the slot `at`.
-fn children_of(slots: &[Slot], at: u32) -> (Link, u32)
+pub fn children_of(slots: &[Slot], at: u32) -> (Link, u32)
     ensures first { result.0 ≡ first_link (slice_get slots.now at) }
     ensures count { result.1 ≡ child_number (slice_get slots.now at) }
 {
