@@ -1,6 +1,6 @@
 -- The first cause of several lists, and causes by what was measured of a tree.
-use Rattle.std.proofs.Common.{Bool, None, Ok, Err, Option, Result, Some, [], ap, arith, inl, inr, le-ltb, lt-ltb, ltb-false, ltb-true, min, nat_lt, refl, sym, true, ℕ, ◌++◌, ◌+◌, ◌-◌, ◌<◌, ◌^◌, ◌||◌, ◌∙◌, ◌∷◌, ◌≡◌, ◌≢◌, ◌≤◌}
-use Rattle.std.proofs.lemmas.Bool.{cases_Bool}
+use Rattle.std.proofs.Common.{Bool, IsErr, None, Ok, Err, Option, Result, Some, [], ap, arith, inl, inr, le-ltb, lt-ltb, ltb-false, ltb-true, min, nat_lt, refl, sym, true, ℕ, ◌++◌, ◌+◌, ◌-◌, ◌<◌, ◌^◌, ◌||◌, ◌∙◌, ◌∷◌, ◌≡◌, ◌≢◌, ◌≤◌}
+use Rattle.std.proofs.lemmas.Bool.{cases_Bool, false≢true}
 use Rattle.page_laws.proofs.FirstOf.{append-first, append-second}
 use Rattle.page_model.specs.Edits.{Taken, grammar_causes, size_causes}
 use Rattle.page_model.specs.Refusals.{Causes, first_of}
@@ -31,10 +31,11 @@ cause-known IdLimit n = (cause.IdLimit, refl)
 cause-known AttrLimit n = (cause.AttrLimit, refl)
 
 -- a fault by the first of two lists of causes
-pub checks-first : (X Y : Type 0) (xs ys : Causes) (e : DocFault) → ChecksBy {X = X} xs (Err e) → ChecksBy {X = Y} (xs ++ ys) (Err e)
-checks-first X Y xs ys e h =
-    let c = cause-known e h.0 in
-    (h.0, append-first xs ys c.0 (h.1 ∙ c.1) ∙ sym c.1)
+pub checks-fault : {X : Type 0} (xs ys : Causes) (r : Result X DocFault) → IsErr r → ChecksBy xs r → ChecksBy (xs ++ ys) r
+checks-fault xs ys (Err e) h k =
+    let c = cause-known e k.0 in
+    (k.0, append-first xs ys c.0 (k.1 ∙ c.1) ∙ sym c.1)
+checks-fault xs ys (Ok x) h k = absurd (false≢true h)
 
 -- an answer by causes with the same first one
 pub checks-same : {X : Type 0} (xs ys : Causes) (r : Result X DocFault) → first_of xs ≡ first_of ys → ChecksBy ys r → ChecksBy xs r
