@@ -68,7 +68,7 @@ doc-facts k x d = record {
 -- ---- the node with an id
 
 -- an id that the table leads nowhere from is the id of no node
-not-found : (k : Kept) (x : ℕ) (n : Node) (i : ℕ) → HoldsTree k x n → table_at k.table i ≡ None → find i (rename (id_at k.slots) n) ≡ None
+pub not-found : (k : Kept) (x : ℕ) (n : Node) (i : ℕ) → HoldsTree k x n → table_at k.table i ≡ None → find i (rename (id_at k.slots) n) ≡ None
 not-found k x n i h e = elim (none-or-some (find i (rename (id_at k.slots) n))) [
   | inl none ↦ none
   | inr some ↦
@@ -79,7 +79,7 @@ not-found k x n i h e = elim (none-or-some (find i (rename (id_at k.slots) n))) 
       absurd (none-some y.0 (sym e ∙ (ap (table_at k.table) y.1.1 ∙ there)))
 ]
 
-found-by : (k : Kept) (x : ℕ) (n : Node) (i y : ℕ) → HoldsTree k x n → table_at k.table i ≡ Some y → find i (rename (id_at k.slots) n) ≡ option_map (rename (id_at k.slots)) (find y n)
+pub found-by : (k : Kept) (x : ℕ) (n : Node) (i y : ℕ) → HoldsTree k x n → table_at k.table i ≡ Some y → find i (rename (id_at k.slots) n) ≡ option_map (rename (id_at k.slots)) (find y n)
 found-by k x n i y h e =
     let f : ℕ → ℕ = id_at k.slots in
     let is = h.store.found i y e in
@@ -191,7 +191,7 @@ or-false false b e = (refl, e)
 
 mutual
   -- a node that no other has among its children is the root
-  top-alone : (y : ℕ) (n : Node) → IsAmong y (ids n) → parent_in y n ≡ None → y ≡ id_of n
+  pub top-alone : (y : ℕ) (n : Node) → IsAmong y (ids n) → parent_in y n ≡ None → y ≡ id_of n
   top-alone y (element id name attributes children) (inl e) none = e
   top-alone y (element id name attributes children) (inr a) none = elim (cases_Bool (is_among y (ids_of children))) [
     | inl t ↦ absurd (none-some (element id name attributes children) (sym (rw t at none)))

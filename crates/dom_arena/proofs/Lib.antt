@@ -16,3 +16,4 @@ pub mod Loads
 pub mod Values
 pub mod Measures
 pub mod Shapes
+pub mod Removed

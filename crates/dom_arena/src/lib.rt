@@ -12,6 +12,7 @@ mod links;
 mod names;
 mod reading;
 mod release;
+mod remove;
 mod sizes;
 mod slot;
 mod store;
