@@ -17,3 +17,4 @@ pub mod Values
 pub mod Measures
 pub mod Shapes
 pub mod Removed
+pub mod Deepest

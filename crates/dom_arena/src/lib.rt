@@ -6,6 +6,7 @@ mod build;
 mod counts;
 mod doc;
 mod fault;
+mod heights;
 mod limits;
 mod link;
 mod links;
