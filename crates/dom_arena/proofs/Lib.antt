@@ -19,3 +19,5 @@ pub mod Shapes
 pub mod Refused
 pub mod Climbs
 pub mod Walks
+pub mod Removed
+pub mod Deepest
