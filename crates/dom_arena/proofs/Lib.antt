@@ -21,3 +21,4 @@ pub mod Climbs
 pub mod Walks
 pub mod Removed
 pub mod Deepest
+pub mod Inserts

@@ -23,7 +23,7 @@ use Rattle.page_model.specs.declared.limits.TheConstants.{MAX_DEPTH, MAX_NODES}
 -- ---- no list of children is longer than the tree
 
 mutual
-  part-length : (i : ℕ) (root n : Node) → find i root ≡ Some n → length (ids n) ≤ length (ids root)
+  pub part-length : (i : ℕ) (root n : Node) → find i root ≡ Some n → length (ids n) ≤ length (ids root)
   part-length i (element id name attributes children) n e = elim (if-found (i == id) (element id name attributes children) n (find_in i children) e) [
     | inl k ↦
         let same : element id name attributes children ≡ n = same_Some (element id name attributes children) n k.1 in

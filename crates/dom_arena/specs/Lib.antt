@@ -15,3 +15,4 @@ pub mod Measures
 pub mod Between
 pub mod Taking
 pub mod Heights
+pub mod Inserting

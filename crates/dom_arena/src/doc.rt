@@ -3,7 +3,7 @@ ghost use Rattle.std.specs.Prelude.{◌≡◌, ◌≢◌, ◌≤◌, true, IfOk,
 ghost use Rattle.page_model.specs.Document.{document, id_of, find, parent_of, first_child_of, next_of, prev_of, name_at, text_at, value_at};
 ghost use Rattle.std.specs.Str.{chars};
 ghost use Rattle.page_model.specs.declared.limits.TheConstants.{MAX_NODES};
-ghost use Rattle.page_model.specs.Edits.{document_after_remove, remove_causes};
+ghost use Rattle.page_model.specs.Edits.{document_after_insert, document_after_remove, insert_causes, remove_causes};
 ghost use Rattle.page_model.specs.Trees.{is_elem};
 ghost use Rattle.page_laws.specs.Limits.{KeepsLimits};
 ghost use Rattle.dom_arena.specs.Docs.{IsDocument};
@@ -13,6 +13,7 @@ ghost use Rattle.dom_arena.specs.Shape.{shape};
 
 use crate::build::build;
 use crate::fault::DocFault;
+use crate::insert::{insert_slot, insert_tree};
 use crate::limits::{self, Taken};
 use crate::reading;
 use crate::remove::{inner_slot, remove_tree};
@@ -144,6 +145,28 @@ impl Doc {
         ensures { result ≡ prev_of id self.now.document.root }
     {
         self.store.id_behind(reading::prev(self.store.slot(id)))
+    }
+
+    /// Puts a new tree below the element `parent`, as its child at `index`, and returns the id of its root.
+    /// The new nodes get the next ids, in document order (DOM section 4.2.3, insert).
+    ///
+    /// # Errors
+    ///
+    /// `NoNode`; `NotElement`; `BadIndex` where the element has fewer children than `index`; the first limit
+    /// that would be broken: `BadName`, `AttrLimit`, `TextLimit`, `DepthLimit`, `NodeLimit`, `IdLimit`; or
+    /// `NoMemory`. Then nothing has changed. The links of an insert take constant time, the place of
+    /// `index` is walked to from the nearer end, and the tree costs its code points.
+    pub fn insert(&mut self, parent: NodeId, index: usize, tree: &Tree) -> Result<NodeId, DocFault>
+        ensures inserted { OnOk result (self.new.document
+            ≡ document_after_insert parent index (shape tree.now) self.old.document) }
+        ensures number { IfOk result (λ id. id ≡ self.old.document.next_id) }
+        ensures causes { AnswersBy (insert_causes parent index (shape tree.now) self.old.document) result }
+        ensures kept { OnErr result (self.new ≡ self.old) }
+    {
+        let at = insert_slot(&self.store, parent, index, tree)?;
+        let id = self.store.table.len() as NodeId;
+        insert_tree(&mut self.store, self.alloc, at, index, tree)?;
+        Ok(id)
     }
 
     /// Takes the node `id` out, with all below it; takes no memory (DOM section 4.2.3, remove).

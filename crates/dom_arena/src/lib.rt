@@ -6,6 +6,7 @@ mod build;
 mod counts;
 mod doc;
 mod fault;
+mod insert;
 mod levels;
 mod heights;
 mod limits;
