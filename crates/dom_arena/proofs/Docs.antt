@@ -68,7 +68,7 @@ doc-facts k x d = record {
 -- ---- the node with an id
 
 -- an id that the table leads nowhere from is the id of no node
-not-found : (k : Kept) (x : ℕ) (n : Node) (i : ℕ) → HoldsTree k x n → table_at k.table i ≡ None → find i (rename (id_at k.slots) n) ≡ None
+pub not-found : (k : Kept) (x : ℕ) (n : Node) (i : ℕ) → HoldsTree k x n → table_at k.table i ≡ None → find i (rename (id_at k.slots) n) ≡ None
 not-found k x n i h e = elim (none-or-some (find i (rename (id_at k.slots) n))) [
   | inl none ↦ none
   | inr some ↦
@@ -79,7 +79,7 @@ not-found k x n i h e = elim (none-or-some (find i (rename (id_at k.slots) n))) 
       absurd (none-some y.0 (sym e ∙ (ap (table_at k.table) y.1.1 ∙ there)))
 ]
 
-found-by : (k : Kept) (x : ℕ) (n : Node) (i y : ℕ) → HoldsTree k x n → table_at k.table i ≡ Some y → find i (rename (id_at k.slots) n) ≡ option_map (rename (id_at k.slots)) (find y n)
+pub found-by : (k : Kept) (x : ℕ) (n : Node) (i y : ℕ) → HoldsTree k x n → table_at k.table i ≡ Some y → find i (rename (id_at k.slots) n) ≡ option_map (rename (id_at k.slots)) (find y n)
 found-by k x n i y h e =
     let f : ℕ → ℕ = id_at k.slots in
     let is = h.store.found i y e in

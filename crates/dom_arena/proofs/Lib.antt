@@ -19,3 +19,4 @@ pub mod Shapes
 pub mod Refused
 pub mod Climbs
 pub mod Walks
+pub mod Removed

@@ -13,3 +13,4 @@ pub mod Docs
 pub mod SeenCode
 pub mod Measures
 pub mod Between
+pub mod Taking

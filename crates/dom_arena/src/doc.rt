@@ -1,5 +1,5 @@
 //! The document (DOM sections 1.1 and 4.2.3).
-ghost use Rattle.std.specs.Prelude.{◌≡◌, ◌≤◌, true, IfOk, is_some, encode_utf8_all, option_map};
+ghost use Rattle.std.specs.Prelude.{◌≡◌, ◌≢◌, ◌≤◌, true, IfOk, IfErr, OnOk, OnErr, is_some, encode_utf8_all, option_map};
 ghost use Rattle.page_model.specs.Document.{document, id_of, find, parent_of, first_child_of, next_of, prev_of, name_at, text_at, value_at};
 ghost use Rattle.std.specs.Str.{chars};
 ghost use Rattle.page_model.specs.declared.limits.TheConstants.{MAX_NODES};
@@ -7,13 +7,14 @@ ghost use Rattle.page_model.specs.Trees.{is_elem};
 ghost use Rattle.page_laws.specs.Limits.{KeepsLimits};
 ghost use Rattle.dom_arena.specs.Docs.{IsDocument};
 ghost use Rattle.dom_arena.specs.Faults.{AnswersBy};
-ghost use Rattle.page_model.specs.Edits.{load_causes};
+ghost use Rattle.page_model.specs.Edits.{document_after_remove, load_causes, remove_causes};
 ghost use Rattle.dom_arena.specs.Shape.{shape};
 
 use crate::build::build;
 use crate::fault::DocFault;
 use crate::limits::{self, Taken};
 use crate::reading;
+use crate::remove::{inner_slot, remove_tree};
 use crate::store::Store;
 use crate::tree::Tree;
 use port_core::{NoMemory, NodeId};
@@ -142,6 +143,22 @@ impl Doc {
         ensures { result ≡ prev_of id self.now.document.root }
     {
         self.store.id_behind(reading::prev(self.store.slot(id)))
+    }
+
+    /// Takes the node `id` out, with all below it; takes no memory (DOM section 4.2.3, remove).
+    ///
+    /// # Errors
+    ///
+    /// `NoNode`; `IsRoot` for the root. Then nothing has changed.
+    pub fn remove(&mut self, id: NodeId) -> Result<(), DocFault>
+        ensures removed { OnOk result (self.new.document ≡ document_after_remove id self.old.document) }
+        ensures causes { AnswersBy (remove_causes id self.old.document) result }
+        ensures without_memory { IfErr result (λ e. e ≢ DocFault.NoMemory) }
+        ensures kept { OnErr result (self.new ≡ self.old) }
+    {
+        let at = inner_slot(&self.store, self.root, id)?;
+        remove_tree(&mut self.store, at);
+        Ok(())
     }
 }
 

@@ -14,6 +14,7 @@ mod names;
 mod places;
 mod reading;
 mod release;
+mod remove;
 mod sizes;
 mod slot;
 mod store;

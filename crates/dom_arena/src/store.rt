@@ -1,7 +1,7 @@
 //! Slots, the table that leads from ids to them, and the list of free slots.
 ghost use Rattle.std.specs.Prelude.{◌≡◌, ◌≤◌, ◌<◌, ◌+◌, [], Some, ℕ, length, IfOk, OnOk, OnErr, slice_get, slice_set, option_map};
 ghost use Rattle.std.specs.Option.{option_copied};
-ghost use Rattle.dom_arena.specs.Slots.{target, content_at, id_at};
+ghost use Rattle.dom_arena.specs.Slots.{target, content_at, id_at, table_at};
 ghost use Rattle.dom_arena.specs.Stores.{spot, slots_with, free_behind, leaf, no_link, next_free, kept_with, kept_without, size_in, slots_without, slot_by_id};
 ghost use Rattle.dom_arena.specs.Views.{kept};
 
@@ -122,6 +122,13 @@ impl Store {
             live: 0,
             code_points: 0,
         }
+    }
+
+    /// Returns the number of the slot of the node `id`.
+    pub fn at(&self, id: NodeId) -> Option<u32>
+        ensures { result ≡ table_at self.now.table.items id }
+    {
+        self.table.get(id as usize)?.get()
     }
 
     /// Returns the slot of the node `id`.
