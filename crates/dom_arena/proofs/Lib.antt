@@ -20,3 +20,4 @@ pub mod Refused
 pub mod Climbs
 pub mod Walks
 pub mod Removed
+pub mod Deepest

@@ -1,16 +1,15 @@
 -- The document after a node was taken out.
-use Rattle.std.proofs.Common.{Bool, IsSome, List, None, Some, [], ap, arith, eq-eqb, eqb-true, false, inl, inr, is_none, is_some, length, nat_lt, ne_eqb, option_map, slice_get, subst, sym, ℕ, ◌++◌, ◌==◌, ◌∙◌, ◌∷◌, ◌≡◌, ◌≤◌}
+use Rattle.std.proofs.Common.{Bool, IsSome, List, None, Some, [], ap, arith, eq-eqb, eqb-true, inl, inr, is_none, is_some, length, ne_eqb, option_map, slice_get, subst, sym, ℕ, ◌++◌, ◌==◌, ◌∙◌, ◌∷◌, ◌≡◌, ◌≤◌}
 use Rattle.std.proofs.lemmas.Bool.{cases_Bool, eqb-false, false≢true}
 use Rattle.std.proofs.lemmas.Option.{same_Some}
-use Rattle.std.specs.List.{list_any}
 use Rattle.dom_arena.proofs.Chains.{chain-cut, end-among, front-among}
 use Rattle.dom_arena.proofs.Detached.{Detaches, linked-detached, linked-taken}
-use Rattle.dom_arena.proofs.Docs.{doc-facts, not-found, read-root, slot-found, slot-node, top-alone, tree-alone, tree-live}
+use Rattle.dom_arena.proofs.Docs.{not-found, read-root, slot-found, slot-node, top-alone, tree-alone, tree-live}
 use Rattle.dom_arena.proofs.Hooked.{Relinked, detaches, relinked-detached}
 use Rattle.dom_arena.proofs.Kept.{live-same, live-slot-same, store-relinked}
 use Rattle.dom_arena.proofs.Loads.{document_of, tree-doc}
 use Rattle.dom_arena.proofs.Releases.{id-slot, linked-slots, place-slot, slot-of-body}
-use Rattle.dom_arena.proofs.Renamed.{find-renamed, height-renamed, id_of-renamed, removed-renamed, rename-same}
+use Rattle.dom_arena.proofs.Renamed.{height-renamed, removed-renamed, rename-same}
 use Rattle.dom_arena.specs.Built.{IsBranch, Released}
 use Rattle.dom_arena.specs.Cells.{AreChained, AreLinked, IsLinked, Place, body_of, final, nowhere}
 use Rattle.dom_arena.specs.Docs.{HoldsTree, IsDoc, document_in}
@@ -22,39 +21,22 @@ use Rattle.dom_arena.specs.Taking.{IsDocOf, detached_from, taken_out}
 use Rattle.dom_arena.specs.Writes.{detached}
 use Rattle.page_laws.proofs.Find.{among-top, find-distinct, find-id, some-among}
 use Rattle.page_laws.proofs.IsAmong.{among-is_among, among-left, among-right, is_among-true}
+use Rattle.page_laws.proofs.KeptLimits.{kept-removed}
 use Rattle.page_laws.proofs.Levels.{find-height}
 use Rattle.page_laws.proofs.Options.{none-or-some}
 use Rattle.page_laws.proofs.ParentOf.{child-lower, parent-child, parent-found}
 use Rattle.page_laws.proofs.Siblings.{children-distinct}
 use Rattle.page_laws.proofs.Spliced.{Spliced, part-apart, spliced-among}
-use Rattle.page_laws.proofs.TreeAfterRemove.{distinct-removed, has_node-removed, height-removed, id_of-removed, name_of-removed, node_count-removed, spliced-removed, text_size-removed}
+use Rattle.page_laws.proofs.TreeAfterRemove.{distinct-removed, id_of-removed, name_of-removed, node_count-removed, spliced-removed, text_size-removed}
 use Rattle.page_laws.specs.Limits.{KeepsLimits}
-use Rattle.page_model.specs.Document.{AreDistinct, Document, IsAmong, Node, after, before, children_of, find, height, id_of, ids, ids_of, is_among, name_of, node_count, parent_in, without_ids}
+use Rattle.page_model.specs.Document.{AreDistinct, IsAmong, Node, after, before, children_of, find, height, id_of, ids, ids_of, is_among, name_of, node_count, parent_in, without_ids}
 use Rattle.page_model.specs.Edits.{document_after_remove, remove_causes, tree_after_remove}
 use Rattle.page_model.specs.Refusals.{first_of}
-use Rattle.page_model.specs.Trees.{Attribute, is_badly_named, is_long, text_size}
+use Rattle.page_model.specs.Trees.{text_size}
 use Rattle.dom_arena.specs.declared.slot.Slot.{Slot}
-use Rattle.page_model.specs.declared.limits.TheConstants.{MAX_ATTRIBUTES, MAX_DEPTH}
+use Rattle.page_model.specs.declared.limits.TheConstants.{MAX_DEPTH}
 use Rattle.dom_arena.specs.Cells as ends
 use Rattle.page_model.specs.declared.cause.Cause.TheVariants as cause
-
--- ---- the limits after a remove
-
-limits-removed : (i : ℕ) (d : Document) (n : Node) → AreDistinct (ids d.root) → find i d.root ≡ Some n → (i ≡ id_of d.root → ⊥) → KeepsLimits d → KeepsLimits (document_after_remove i d)
-limits-removed i d n distinct f other limits =
-    let points = text_size-removed i d.root n distinct f other in
-    let count = node_count-removed i d.root n distinct f other in
-    record {
-      grammar = record {
-        names = has_node-removed is_badly_named (λ _. false) i d.root limits.grammar.names;
-        attributes = has_node-removed (λ _ attributes. nat_lt MAX_ATTRIBUTES (length attributes)) (λ _. false) i d.root limits.grammar.attributes;
-        texts = has_node-removed (λ _ attributes. list_any (λ (a : Attribute). is_long a.1) attributes) is_long i d.root limits.grammar.texts;
-      };
-      code_points = omega (arith, points, limits.code_points);
-      low = omega (arith, height-removed i d.root, limits.low);
-      few = omega (arith, count, limits.few);
-      given = limits.given;
-    }
 
 -- ---- where a node hangs
 
@@ -232,11 +214,7 @@ doc-removed k b x y d live other release =
     let root : rename (id_at b.slots) (tree_after_remove y n) ≡ tree_after_remove (f y) (rename f n) = rest-renamed k a b x n y w.node d.tree (taken-relinked k.slots n y w) t r in
     let next : length b.table ≡ length k.table = r.given in
     let same : document_of b (tree_after_remove y n) ≡ document_after_remove (f y) (document_in k x) = λ j. record { root = root j; next_id = next j } in
-    let facts = doc-facts k x d in
-    let a_y : IsAmong y (ids n) = some-among y n w.node t.found in
-    let found : find (f y) (rename f n) ≡ Some (rename f w.node) = find-renamed f y n (tree-alone k x n d.tree y a_y) ∙ ap (option_map (rename f)) t.found in
-    let inner : f y ≡ id_of (rename f n) → ⊥ = λ e. t.inner (sym (tree-alone k x n d.tree y a_y (id_of n) (among-top n) (sym (e ∙ id_of-renamed f n)))) in
-    let limits : KeepsLimits (document_after_remove (f y) (document_in k x)) = limits-removed (f y) (document_in k x) (rename f w.node) facts.ids.0 found inner d.limits in
+    let limits : KeepsLimits (document_after_remove (f y) (document_in k x)) = kept-removed (f y) (document_in k x) d.limits in
     let is = tree-doc b x (tree_after_remove y n) (released-holds a b x n y w.node t r) (subst KeepsLimits (sym same) limits) in
     (is.1, is.0 ∙ same)
 

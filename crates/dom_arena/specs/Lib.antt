@@ -14,3 +14,4 @@ pub mod SeenCode
 pub mod Measures
 pub mod Between
 pub mod Taking
+pub mod Heights

@@ -7,6 +7,7 @@ mod counts;
 mod doc;
 mod fault;
 mod levels;
+mod heights;
 mod limits;
 mod link;
 mod links;
