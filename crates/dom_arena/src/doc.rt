@@ -8,7 +8,7 @@ ghost use Rattle.page_model.specs.Trees.{is_elem};
 ghost use Rattle.page_laws.specs.Limits.{KeepsLimits};
 ghost use Rattle.dom_arena.specs.Docs.{IsDocument};
 ghost use Rattle.dom_arena.specs.Faults.{AnswersBy};
-ghost use Rattle.page_model.specs.Edits.{load_causes};
+ghost use Rattle.page_model.specs.Edits.{document_after_remove, load_causes, remove_causes};
 ghost use Rattle.dom_arena.specs.Shape.{shape};
 
 use crate::build::build;
