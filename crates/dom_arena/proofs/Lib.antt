@@ -16,3 +16,5 @@ pub mod Loads
 pub mod Values
 pub mod Measures
 pub mod Shapes
+pub mod Changed
+pub mod ContentEdits

@@ -12,3 +12,4 @@ pub mod Built
 pub mod Docs
 pub mod SeenCode
 pub mod Measures
+pub mod Contents

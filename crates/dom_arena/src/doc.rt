@@ -1,14 +1,18 @@
 //! The document (DOM sections 1.1 and 4.2.3).
-ghost use Rattle.std.specs.Prelude.{◌≡◌, ◌≤◌, true, IfOk, is_some, encode_utf8_all, option_map};
+ghost use Rattle.std.specs.Prelude.{◌≡◌, ◌≤◌, true, IfOk, OnOk, OnErr, is_some, encode_utf8_all, option_map};
 ghost use Rattle.page_model.specs.Document.{document, id_of, find, parent_of, first_child_of, next_of, prev_of, name_at, text_at, value_at};
+ghost use Rattle.page_model.specs.Edits.{document_after_set_text, set_text_causes};
 ghost use Rattle.std.specs.Str.{chars};
 ghost use Rattle.page_model.specs.declared.limits.TheConstants.{MAX_NODES};
 ghost use Rattle.page_model.specs.Trees.{is_elem};
 ghost use Rattle.page_laws.specs.Limits.{KeepsLimits};
 ghost use Rattle.dom_arena.specs.Docs.{IsDocument};
+ghost use Rattle.dom_arena.specs.Faults.{AnswersBy};
 ghost use Rattle.dom_arena.specs.Shape.{shape};
 
 use crate::build::build;
+use crate::contents;
+use crate::fault::DocFault;
 use crate::reading;
 use crate::store::Store;
 use crate::tree::Tree;
@@ -123,6 +127,16 @@ impl Doc {
         ensures { result ≡ prev_of id self.now.document.root }
     {
         self.store.id_behind(reading::prev(self.store.slot(id)))
+    }
+
+    /// Gives the text `id` these code points. (DOM section 4.10, replace data)
+    pub fn set_text(&mut self, id: NodeId, text: &str) -> Result<(), DocFault>
+        ensures set { OnOk result (self.new.document
+            ≡ document_after_set_text id (chars text.now) self.old.document) }
+        ensures causes { AnswersBy (set_text_causes id (chars text.now) self.old.document) result }
+        ensures kept { OnErr result (self.new ≡ self.old) }
+    {
+        contents::set_text(&mut self.store, self.alloc, id, text)
     }
 }
 

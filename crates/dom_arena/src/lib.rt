@@ -3,6 +3,7 @@
 
 mod attrs;
 mod build;
+mod contents;
 mod counts;
 mod doc;
 mod fault;
