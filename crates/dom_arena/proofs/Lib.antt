@@ -18,3 +18,5 @@ pub mod Measures
 pub mod Shapes
 pub mod Changed
 pub mod ContentEdits
+pub mod TextOrder
+pub mod AttributeSpots

@@ -13,3 +13,4 @@ pub mod Docs
 pub mod SeenCode
 pub mod Measures
 pub mod Contents
+pub mod Spots

@@ -1,4 +1,4 @@
-//! Changing what a node is by itself: the code points of a text, the attributes of an element.
+//! Changing the code points of a text.
 ghost use Rattle.std.specs.Prelude.{◌≡◌, ◌≤◌, ◌+◌, ◌||◌, ◌∷◌, [], length, nat_lt, is_some, slice_get, IfOk, OnOk, OnErr};
 ghost use Rattle.std.specs.Option.{option_copied};
 ghost use Rattle.std.specs.Str.{chars};
@@ -22,7 +22,7 @@ use port_core::{NodeId, Text};
 use std::alloc::Global;
 
 /// Returns the slot of the node `id`.
-fn slot_of(store: &Store, id: NodeId) -> Option<u32>
+pub fn slot_of(store: &Store, id: NodeId) -> Option<u32>
     ensures { result ≡ table_at store.now.table.items id }
 {
     store.table.get(id as usize)?.get()
@@ -39,7 +39,7 @@ fn is_element(content: &Content) -> bool
 
 /// Returns the number of code points of `text`, unless they are too many, by themselves or together
 /// with `others`.
-fn check_length(text: &str, others: u32) -> Result<u32, DocFault>
+pub fn check_length(text: &str, others: u32) -> Result<u32, DocFault>
     ensures causes { ChecksBy ((is_long (chars text.now)
         || nat_lt MAX_TEXTS (others + length (chars text.now)), TextLimit) ∷ []) result }
     ensures size { IfOk result (λ size. size ≡ length (chars text.now)) }
@@ -84,7 +84,7 @@ fn put(slots: &mut [Slot], at: u32, content: Content, size: u32)
 }
 
 /// Returns how many code points the node in the slot `at` has by itself.
-fn size_at(slots: &[Slot], at: u32) -> u32
+pub fn size_at(slots: &[Slot], at: u32) -> u32
     ensures { result ≡ size_in (slice_get slots.now at) }
 {
     match slots.get(at as usize) {

@@ -6,6 +6,7 @@ mod build;
 mod contents;
 mod counts;
 mod doc;
+mod elements;
 mod fault;
 mod limits;
 mod link;
@@ -15,6 +16,7 @@ mod reading;
 mod release;
 mod sizes;
 mod slot;
+mod spots;
 mod store;
 mod tree;
 

@@ -1,10 +1,9 @@
-use Rattle.std.proofs.Common.{◌≡◌, subst, length}
+use Rattle.std.proofs.Common.{◌≡◌, subst}
 use Rattle.std.specs.Prelude.{OnOk}
 use Rattle.std.specs.Str.{chars}
 use Rattle.page_model.specs.Edits.{document_after_set_text, set_text_causes}
 use Rattle.dom_arena.specs.Docs.{Seen, document_in}
 use Rattle.dom_arena.specs.Faults.{AnswersBy}
-use Rattle.dom_arena.specs.Stores.{Kept}
 use Rattle.dom_arena.specs.Views.{kept}
 use Rattle.dom_arena.proofs.ContentEdits.{text-answered}
 use Rattle.dom_arena.proofs.doc.Doc.set_text.Goals as goal
