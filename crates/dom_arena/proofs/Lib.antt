@@ -22,3 +22,7 @@ pub mod Walks
 pub mod Removed
 pub mod Deepest
 pub mod Inserts
+pub mod Changed
+pub mod ContentEdits
+pub mod TextOrder
+pub mod AttributeSpots

@@ -16,3 +16,5 @@ pub mod Between
 pub mod Taking
 pub mod Heights
 pub mod Inserting
+pub mod Contents
+pub mod Spots

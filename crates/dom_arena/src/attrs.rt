@@ -1,8 +1,9 @@
 //! The attributes of an element (DOM section 4.9).
-ghost use Rattle.std.specs.Prelude.{◌≡◌, [], IfOk, true, option_map, encode_utf8_all};
+ghost use Rattle.std.specs.Prelude.{◌≡◌, [], IfOk, OnOk, OnErr, true, option_map, encode_utf8_all};
 ghost use Rattle.std.specs.Str.{chars};
-ghost use Rattle.page_model.specs.Attributes.{are_in_order, value_of};
+ghost use Rattle.page_model.specs.Attributes.{are_in_order, value_of, with_attribute, without_attribute};
 
+use crate::spots::{put, spot_of, take};
 use port_core::{NoMemory, Text};
 use std::alloc::Global;
 use std::marker::Model;
@@ -57,6 +58,25 @@ impl Attrs {
             ≡ option_map encode_utf8_all (value_of (chars name.now) self.now) }
     {
         value_in(self.as_slice(), name)
+    }
+
+    /// Gives the attribute `name` this value, in place of one that is there.
+    pub fn set(&mut self, alloc: Global, name: &str, value: &str) -> Result<(), NoMemory>
+        ensures set { OnOk result (self.new ≡ with_attribute (chars name.now) (chars value.now) self.old) }
+        ensures kept { OnErr result (self.new ≡ self.old) }
+    {
+        let name_text = Text::new(alloc, name)?;
+        let value_text = Text::new(alloc, value)?;
+        let spot = spot_of(self.list.as_slice(), name);
+        put(&mut self.list, spot, (name_text, value_text))
+    }
+
+    /// Takes the attribute `name` out, if it is there; takes no memory.
+    pub fn drop(&mut self, name: &str)
+        ensures { self.new ≡ without_attribute (chars name.now) self.old }
+    {
+        let spot = spot_of(self.list.as_slice(), name);
+        take(&mut self.list, spot);
     }
 
     /// Returns a copy of the attributes.

@@ -1,6 +1,7 @@
 //! The document (DOM sections 1.1 and 4.2.3).
 ghost use Rattle.std.specs.Prelude.{◌≡◌, ◌≢◌, ◌≤◌, true, IfOk, IfErr, OnOk, OnErr, is_some, encode_utf8_all, option_map};
 ghost use Rattle.page_model.specs.Document.{document, id_of, find, parent_of, first_child_of, next_of, prev_of, name_at, text_at, value_at};
+ghost use Rattle.page_model.specs.Edits.{document_after_set_text, set_text_causes};
 ghost use Rattle.std.specs.Str.{chars};
 ghost use Rattle.page_model.specs.declared.limits.TheConstants.{MAX_NODES};
 ghost use Rattle.page_model.specs.Edits.{document_after_insert, document_after_remove, insert_causes, remove_causes};
@@ -15,6 +16,7 @@ use crate::build::build;
 use crate::fault::DocFault;
 use crate::insert::{insert_slot, insert_tree};
 use crate::limits::{self, Taken};
+use crate::contents;
 use crate::reading;
 use crate::remove::{inner_slot, remove_tree};
 use crate::store::Store;
@@ -183,6 +185,12 @@ impl Doc {
         let at = inner_slot(&self.store, self.root, id)?;
         remove_tree(&mut self.store, at);
         Ok(())
+    /// Gives the text `id` these code points. (DOM section 4.10, replace data)
+    pub fn set_text(&mut self, id: NodeId, text: &str) -> Result<(), DocFault>
+        ensures set { OnOk result (self.new.document
+            ≡ document_after_set_text id (chars text.now) self.old.document) }
+        ensures causes { AnswersBy (set_text_causes id (chars text.now) self.old.document) result }
+        contents::set_text(&mut self.store, self.alloc, id, text)
     }
 }
 

@@ -3,8 +3,10 @@
 
 mod attrs;
 mod build;
+mod contents;
 mod counts;
 mod doc;
+mod elements;
 mod fault;
 mod insert;
 mod levels;
@@ -19,6 +21,7 @@ mod release;
 mod remove;
 mod sizes;
 mod slot;
+mod spots;
 mod store;
 mod tree;
 
