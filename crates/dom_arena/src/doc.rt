@@ -185,11 +185,15 @@ impl Doc {
         let at = inner_slot(&self.store, self.root, id)?;
         remove_tree(&mut self.store, at);
         Ok(())
+    }
+
     /// Gives the text `id` these code points. (DOM section 4.10, replace data)
     pub fn set_text(&mut self, id: NodeId, text: &str) -> Result<(), DocFault>
         ensures set { OnOk result (self.new.document
             ≡ document_after_set_text id (chars text.now) self.old.document) }
         ensures causes { AnswersBy (set_text_causes id (chars text.now) self.old.document) result }
+        ensures kept { OnErr result (self.new ≡ self.old) }
+    {
         contents::set_text(&mut self.store, self.alloc, id, text)
     }
 }
