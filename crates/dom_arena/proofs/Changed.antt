@@ -214,3 +214,15 @@ doc-edited k x i y f points a t m s e grammar fits =
     let same : document_of now n ≡ d = λ j. record { root = root j; next_id = length k.table } in
     let is = tree-doc now x n (holds-edited k x i y f points a t m s e) (subst KeepsLimits (sym same) (limits-changed (document_in k x) i a t e.doc.limits grammar fits)) in
     (is.0 ∙ same, is.1)
+
+-- where the node has no more code points than before, no limit on texts is broken
+pub smaller-edited : (k : Kept) (x i y : ℕ) (f : Content → Content) (points : ℕ) (a : List Attribute → List Attribute) (t : Text → Text) (m : Node) (s : Slot) → Edited k x i y f points a t m s
+    → points ≤ s.size → text_size (without_ids (tree_after_change i a t (document_in k x).root)) ≤ MAX_TEXTS
+smaller-edited k x i y f points a t m s e less =
+    let n : Node = tree_in k.slots x in
+    let after = text_size-changed y a t n m e.doc.tree.distinct e.found in
+    let own : s.size ≡ own_text_size m = (body-parts y s (body_of m) e.body).4 in
+    let same = total-edited k x i y f points a t m s e in
+    let all = points-edited k x i y f points a t m s e in
+    let before : text_size (without_ids (document_in k x).root) ≡ text_size (without_ids n) = ap text_size (without-renamed (id_at k.slots) n) in
+    omega (arith, after, own, same, all, before, e.size, less, e.doc.limits.code_points)

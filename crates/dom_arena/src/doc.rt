@@ -1,7 +1,7 @@
 //! The document (DOM sections 1.1 and 4.2.3).
-ghost use Rattle.std.specs.Prelude.{◌≡◌, ◌≤◌, true, IfOk, OnOk, OnErr, is_some, encode_utf8_all, option_map};
+ghost use Rattle.std.specs.Prelude.{◌≡◌, ◌≢◌, ◌≤◌, true, IfErr, IfOk, OnOk, OnErr, is_some, encode_utf8_all, option_map};
 ghost use Rattle.page_model.specs.Document.{document, id_of, find, parent_of, first_child_of, next_of, prev_of, name_at, text_at, value_at};
-ghost use Rattle.page_model.specs.Edits.{document_after_set_text, set_text_causes};
+ghost use Rattle.page_model.specs.Edits.{document_after_drop_attr, document_after_set_text, drop_attr_causes, set_text_causes};
 ghost use Rattle.std.specs.Str.{chars};
 ghost use Rattle.page_model.specs.declared.limits.TheConstants.{MAX_NODES};
 ghost use Rattle.page_model.specs.Trees.{is_elem};
@@ -12,6 +12,7 @@ ghost use Rattle.dom_arena.specs.Shape.{shape};
 
 use crate::build::build;
 use crate::contents;
+use crate::elements;
 use crate::fault::DocFault;
 use crate::reading;
 use crate::store::Store;
@@ -137,6 +138,18 @@ impl Doc {
         ensures kept { OnErr result (self.new ≡ self.old) }
     {
         contents::set_text(&mut self.store, self.alloc, id, text)
+    }
+
+    /// Takes the attribute `name` from the element `id`, if it is there; takes no memory. (DOM section 4.9,
+    /// removeAttribute)
+    pub fn drop_attr(&mut self, id: NodeId, name: &str) -> Result<(), DocFault>
+        ensures dropped { OnOk result (self.new.document
+            ≡ document_after_drop_attr id (chars name.now) self.old.document) }
+        ensures causes { AnswersBy (drop_attr_causes id self.old.document) result }
+        ensures without_memory { IfErr result (λ e. e ≢ DocFault.NoMemory) }
+        ensures kept { OnErr result (self.new ≡ self.old) }
+    {
+        elements::drop_attr(&mut self.store, id, name)
     }
 }
 
