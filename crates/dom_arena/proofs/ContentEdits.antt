@@ -7,28 +7,30 @@ use Rattle.page_laws.proofs.Find.{find-id}
 use Rattle.page_laws.proofs.Options.{none-or-some, or-false}
 use Rattle.page_laws.proofs.TreeAfterChange.{attributes_at-found, has_node-changed}
 use Rattle.page_laws.specs.Limits.{KeepsGrammar, own_text_size}
-use Rattle.page_model.specs.Attributes.{are_in_order, is_same_text, without_attribute}
+use Rattle.page_model.specs.Attributes.{are_in_order, with_attribute, without_attribute}
 use Rattle.page_model.specs.Names.{is_name}
-use Rattle.page_model.specs.Document.{Document, Node, attributes_of, by_itself, element, find, id_of, name_at, name_of, no_nodes, text, without_ids}
-use Rattle.page_model.specs.Edits.{document_after_drop_attr, document_after_set_text, drop_attr_causes, is_over_text_limit, set_text_causes, tree_after_change, tree_after_drop_attr, tree_after_set_text}
+use Rattle.page_model.specs.Document.{Document, Node, attributes_at, attributes_of, by_itself, element, find, id_of, name_at, name_of, no_nodes, text, without_ids}
+use Rattle.page_model.specs.Edits.{document_after_drop_attr, document_after_set_attr, document_after_set_text, drop_attr_causes, is_over_text_limit, set_attr_causes, set_text_causes, tree_after_change, tree_after_set_attr, tree_after_set_text}
 use Rattle.page_model.specs.Refusals.{Causes, first_of}
 use Rattle.page_model.specs.Trees.{Attribute, Text, is_badly_named, is_long, text_size, value_size}
 use Rattle.page_model.specs.declared.cause.Cause.{Cause}
 use Rattle.page_model.specs.declared.cause.Cause.TheVariants.{NoNode, NotElement, NotText, BadName, TextLimit, AttrLimit}
 use Rattle.page_model.specs.declared.limits.TheConstants.{MAX_ATTRIBUTES, MAX_TEXTS}
 use Rattle.dom_arena.proofs.Changed.{Edited, doc-edited, points-edited, smaller-edited}
-use Rattle.dom_arena.proofs.AttributeSpots.{spot-size-without}
-use Rattle.dom_arena.proofs.Docs.{find-by-table, read-attributes, read-live, read-name, slot-node}
+use Rattle.dom_arena.proofs.AttributeSpots.{spot-count, spot-length, spot-size, spot-size-without}
+use Rattle.dom_arena.proofs.ChangedLimits.{dropped-grammar, set-grammar, text-grammar}
+use Rattle.dom_arena.proofs.Docs.{doc-facts, find-by-table, read-attributes, read-live, read-name, slot-node}
 use Rattle.dom_arena.proofs.Renamed.{name_of-renamed}
 use Rattle.dom_arena.proofs.Releases.{slot-of-body}
 use Rattle.dom_arena.proofs.Written.{body-parts}
 use Rattle.dom_arena.specs.Cells.{body_of}
-use Rattle.dom_arena.specs.Contents.{drop_causes, kept_after, kept_changed, name_in_slot, size_without, text_causes, total_with, with_attributes}
+use Rattle.dom_arena.specs.Contents.{attr_causes, drop_causes, kept_after, kept_changed, name_in_slot, others_of, size_with, size_without, text_causes, total_with, with_attributes}
 use Rattle.dom_arena.specs.Docs.{HoldsTree, IsDoc, document_in}
 use Rattle.dom_arena.specs.Faults.{AnswersBy}
 use Rattle.dom_arena.specs.Reading.{tree_in}
 use Rattle.dom_arena.specs.Rename.{rename}
 use Rattle.dom_arena.specs.Slots.{attributes_in, attributes_in_slot, body_in, id_at, own_in, table_at}
+use Rattle.dom_arena.specs.Spots.{count_with, spot_of}
 use Rattle.dom_arena.specs.Stores.{Kept, slot_by_id}
 use Rattle.dom_arena.specs.declared.fault.DocFault.{DocFault}
 use Rattle.dom_arena.specs.declared.slot.Content.{Content}
@@ -70,9 +72,6 @@ none-same None None h = refl
 none-same (Some x) (Some y) h = refl
 none-same None (Some y) h = absurd (false≢true h)
 none-same (Some x) None h = absurd (false≢true (sym h))
-
-or-both : (a b : Bool) → a ≡ false → b ≡ false → (a || b) ≡ false
-or-both a b h k = rw (h, k) refl
 
 is-none : {X : Type 0} (o : Option X) → is_some o ≡ false → o ≡ None
 is-none None h = refl
@@ -167,14 +166,6 @@ text-causes k x i cs d = elim (at-or-absent k x i d) [
       ∙ points-edited k x i p.y (λ _. Chars cs) (length cs) (λ xs. xs) (λ _. cs) p.m p.s (text-edited k x i cs d p (is-none (name_at i r) h)))))
 ]
 
--- the grammar after a text
-text-grammar : (i : ℕ) (cs : Text) (r : Node) → is_long cs ≡ false → KeepsGrammar r → KeepsGrammar (tree_after_set_text i cs r)
-text-grammar i cs r short g = record {
-  names = has_node-changed is_badly_named (λ _. false) i (λ xs. xs) (λ _. cs) r (λ _ _ h. h) (λ _ _. refl) g.names;
-  attributes = has_node-changed (λ _ xs. nat_lt MAX_ATTRIBUTES (length xs)) (λ _. false) i (λ xs. xs) (λ _. cs) r (λ _ _ h. h) (λ _ _. refl) g.attributes;
-  texts = has_node-changed (λ _ xs. list_any (λ (a : Attribute). is_long a.1) xs) is_long i (λ xs. xs) (λ _. cs) r (λ _ _ h. h) (λ _ _. short) g.texts;
-}
-
 pub text-set : (k k' : Kept) (x i : ℕ) (cs : Text) → IsDoc k x → first_of (set_text_causes i cs (document_in k x)) ≡ None → k' ≡ kept_after k (table_at k.table i) (λ _. Chars cs) (length cs)
     → (document_in k' x ≡ document_after_set_text i cs (document_in k x)) × IsDoc k' x
 text-set k k' x i cs d none same = elim (at-or-absent k x i d) [
@@ -263,40 +254,6 @@ size-dropped k x i name d p named order =
     let own = slot-size k x i d p (ap is_some (sym (name-at k x i d p)) ∙ named) in
     omega (arith, parts, own)
 
-any-without : (test : Attribute → Bool) (name : Text) (xs : List Attribute) → list_any test xs ≡ false → list_any test (without_attribute name xs) ≡ false
-any-without test name [] h = h
-any-without test name (a ∷ xs) h =
-    let parts = or-false (test a) (list_any test xs) h in
-    elim (cases_Bool (is_same_text name a.0)) [
-      | inl t ↦ rw t (any-without test name xs parts.1)
-      | inr f ↦ rw f (or-both (test a) (list_any test (without_attribute name xs)) parts.0 (any-without test name xs parts.1))
-    ]
-
-length-without : (name : Text) (xs : List Attribute) → length (without_attribute name xs) ≤ length xs
-length-without name [] = omega arith
-length-without name (a ∷ xs) =
-    let rest = length-without name xs in
-    elim (cases_Bool (is_same_text name a.0)) [
-      | inl t ↦ rw t (omega (arith, rest))
-      | inr f ↦ rw f (omega (arith, rest))
-    ]
-
-dropped-grammar : (i : ℕ) (name : Text) (r : Node) → KeepsGrammar r → KeepsGrammar (tree_after_drop_attr i name r)
-dropped-grammar i name r g = record {
-  names = has_node-changed is_badly_named (λ _. false) i (without_attribute name) (λ cs. cs) r
-      (λ n xs h.
-          let parts = or-false (not (is_name n)) (list_any (λ (a : Attribute). not (is_name a.0)) xs) h in
-          or-both (not (is_name n)) (list_any (λ (a : Attribute). not (is_name a.0)) (without_attribute name xs)) parts.0 (any-without (λ (a : Attribute). not (is_name a.0)) name xs parts.1))
-      (λ _ h. h) g.names;
-  attributes = has_node-changed (λ _ xs. nat_lt MAX_ATTRIBUTES (length xs)) (λ _. false) i (without_attribute name) (λ cs. cs) r
-      (λ _ xs h.
-          let few : length xs ≤ MAX_ATTRIBUTES = ltb-false MAX_ATTRIBUTES (length xs) h in
-          le-ltb MAX_ATTRIBUTES (length (without_attribute name xs)) (omega (arith, few, length-without name xs)))
-      (λ _ h. h) g.attributes;
-  texts = has_node-changed (λ _ xs. list_any (λ (a : Attribute). is_long a.1) xs) is_long i (without_attribute name) (λ cs. cs) r
-      (λ _ xs h. any-without (λ (a : Attribute). is_long a.1) name xs h) (λ _ h. h) g.texts;
-}
-
 pub drop-causes : (k : Kept) (x i : ℕ) → IsDoc k x → first_of (drop_causes (slot_by_id k i)) ≡ first_of (drop_attr_causes i (document_in k x))
 drop-causes k x i d =
     let r : Node = (document_in k x).root in
@@ -334,3 +291,85 @@ drop-answered k k' x i name (Ok u) d set order causes same =
     (is.1, is.0, none)
 drop-answered {X} k k' x i name (Err fault) d set order causes same =
     (subst (λ (q : Kept). IsDoc q x) (sym same) d, set, answers-same {X = X} (drop_causes (slot_by_id k i)) (drop_attr_causes i (document_in k x)) (Err fault) (drop-causes k x i d) causes)
+
+-- ---- an attribute is set
+
+size-set : (k : Kept) (x i : ℕ) (name value : Text) (d : IsDoc k x) (p : IsAt k x i) → IsSome (name_at i (document_in k x).root)
+    → size_with (Some p.s) name value ≡ value_size (with_attribute name value (attributes_in p.s.content))
+size-set k x i name value d p named =
+    let xs : List Attribute = attributes_in p.s.content in
+    let parts = spot-size name value xs in
+    let less = spot-length xs (spot_of name xs) in
+    let own = slot-size k x i d p (ap is_some (sym (name-at k x i d p)) ∙ named) in
+    omega (arith, parts, less, own)
+
+-- the code points of all texts with the attribute
+points-set : (k : Kept) (x i : ℕ) (name value : Text) (d : IsDoc k x) (p : IsAt k x i) → IsSome (name_at i (document_in k x).root)
+    → others_of k.code_points (slot_by_id k i) name + length value ≡ text_size (without_ids (tree_after_set_attr i name value (document_in k x).root))
+points-set k x i name value d p named =
+    let points : ℕ = size_with (Some p.s) name value in
+    let e = attributes-edited k x i (with_attribute name value) points d p named (size-set k x i name value d p named) in
+    let all = points-edited k x i p.y (with_attributes (with_attribute name value)) points (with_attribute name value) (λ cs. cs) p.m p.s e in
+    let sum : others_of k.code_points (Some p.s) name + length value ≡ total_with k.code_points (Some p.s) points = omega arith in
+    ap (λ o. others_of k.code_points o name + length value) p.by_id ∙ (sum ∙ all)
+
+-- the causes that a name, a value and their number are
+abbrev value_causes : Text → Text → ℕ → ℕ → Causes
+value_causes name value points count =
+    (not (is_name name), BadName) ∷ (is_long value || nat_lt MAX_TEXTS points, TextLimit) ∷ (nat_lt MAX_ATTRIBUTES count, AttrLimit) ∷ []
+
+pub attr-causes : (k : Kept) (x i : ℕ) (name value : Text) → IsDoc k x → first_of (attr_causes (slot_by_id k i) k.code_points name value) ≡ first_of (set_attr_causes i name value (document_in k x))
+attr-causes k x i name value d = elim (at-or-absent k x i d) [
+  | inr none ↦ rw (none.0, none.1) refl
+  | inl p ↦
+      let r : Node = (document_in k x).root in
+      let o : Option Slot = slot_by_id k i in
+      let points : ℕ = others_of k.code_points o name + length value in
+      let points' : ℕ = text_size (without_ids (tree_after_set_attr i name value r)) in
+      let count : ℕ = count_with (spot_of name (attributes_in_slot o)) (length (attributes_in_slot o)) in
+      let count' : ℕ = length (with_attribute name value (attributes_at i r)) in
+      let same_count : count ≡ count' = spot-count name value (attributes_in_slot o) ∙ ap (λ xs. length (with_attribute name value xs)) (read-attributes k x i d) in
+      cause-same (is_none o) (is_none (find i r)) NoNode ((is_none (name_in_slot o), NotElement) ∷ value_causes name value points count) ((is_none (name_at i r), NotElement) ∷ value_causes name value points' count')
+      (ap is_none p.by_id ∙ sym (ap is_none p.node)) (λ _.
+      cause-same (is_none (name_in_slot o)) (is_none (name_at i r)) NotElement (value_causes name value points count) (value_causes name value points' count') (ap is_none (read-name k x i d)) (λ h.
+      let same_points : points ≡ points' = points-set k x i name value d p (some-name (name_at i r) h) in
+      λ j. first_of (value_causes name value (same_points j) (same_count j))))
+]
+
+not-false : (b : Bool) → not b ≡ false → b ≡ true
+not-false true h = refl
+not-false false h = absurd (false≢true (sym h))
+
+pub attr-set : (k k' : Kept) (x i : ℕ) (name value : Text) → IsDoc k x → first_of (set_attr_causes i name value (document_in k x)) ≡ None
+    → k' ≡ kept_after k (table_at k.table i) (with_attributes (with_attribute name value)) (size_with (slot_by_id k i) name value) → (document_in k' x ≡ document_after_set_attr i name value (document_in k x)) × IsDoc k' x
+attr-set k k' x i name value d none same = elim (at-or-absent k x i d) [
+  | inr gone ↦ absurd (none-some NoNode (sym none ∙ rw gone.1 refl))
+  | inl p ↦
+      let r : Node = (document_in k x).root in
+      let after : ℕ = text_size (without_ids (tree_after_set_attr i name value r)) in
+      let count : ℕ = length (with_attribute name value (attributes_at i r)) in
+      let one = none-holds (is_none (find i r)) NoNode ((is_none (name_at i r), NotElement) ∷ value_causes name value after count) none in
+      let two = none-holds (is_none (name_at i r)) NotElement (value_causes name value after count) one.1 in
+      let three = none-holds (not (is_name name)) BadName ((is_long value || nat_lt MAX_TEXTS after, TextLimit) ∷ (nat_lt MAX_ATTRIBUTES count, AttrLimit) ∷ []) two.1 in
+      let four = none-holds (is_long value || nat_lt MAX_TEXTS after) TextLimit ((nat_lt MAX_ATTRIBUTES count, AttrLimit) ∷ []) three.1 in
+      let five = none-holds (nat_lt MAX_ATTRIBUTES count) AttrLimit [] four.1 in
+      let parts = or-false (is_long value) (nat_lt MAX_TEXTS after) four.0 in
+      let named : IsSome (name_at i r) = some-name (name_at i r) two.0 in
+      let points : ℕ = size_with (slot_by_id k i) name value in
+      let size : points ≡ value_size (with_attribute name value (attributes_in p.s.content)) = ap (λ o. size_with o name value) p.by_id ∙ size-set k x i name value d p named in
+      let e = attributes-edited k x i (with_attribute name value) points d p named size in
+      let m : Node = rename (id_at k.slots) p.m in
+      let few : nat_lt MAX_ATTRIBUTES (length (with_attribute name value (attributes_of m))) ≡ false =
+      ap (λ xs. nat_lt MAX_ATTRIBUTES (length (with_attribute name value xs))) (sym (attributes_at-found i r m p.node)) ∙ five.0 in
+      let now : k' ≡ kept_changed k p.y (with_attributes (with_attribute name value)) points = same ∙ ap (λ o. kept_after k o (with_attributes (with_attribute name value)) points) p.at in
+      subst (λ (q : Kept). (document_in q x ≡ document_after_set_attr i name value (document_in k x)) × IsDoc q x) (sym now)
+      (doc-edited k x i p.y (with_attributes (with_attribute name value)) points (with_attribute name value) (λ cs. cs) p.m p.s e
+      (set-grammar i name value r m (doc-facts k x d).ids.0 p.node (not-false (is_name name) three.0) parts.0 few d.limits.grammar) (ltb-false MAX_TEXTS after parts.1))
+]
+
+pub set-answered : {X : Type 0} (k k' : Kept) (x i : ℕ) (name value : Text) (r : Result X DocFault) → IsDoc k x
+    → OnOk r (k' ≡ kept_after k (table_at k.table i) (with_attributes (with_attribute name value)) (size_with (slot_by_id k i) name value)) → AnswersBy (attr_causes (slot_by_id k i) k.code_points name value) r → OnErr r (k' ≡ k)
+    → IsDoc k' x × OnOk r (document_in k' x ≡ document_after_set_attr i name value (document_in k x)) × AnswersBy (set_attr_causes i name value (document_in k x)) r
+set-answered k k' x i name value r d set causes same =
+    answered k k' (kept_after k (table_at k.table i) (with_attributes (with_attribute name value)) (size_with (slot_by_id k i) name value)) x (document_after_set_attr i name value (document_in k x))
+    (attr_causes (slot_by_id k i) k.code_points name value) (set_attr_causes i name value (document_in k x)) r d (attr-causes k x i name value d) (λ none is. attr-set k k' x i name value d none is) set causes same

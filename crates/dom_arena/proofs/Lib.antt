@@ -17,6 +17,7 @@ pub mod Values
 pub mod Measures
 pub mod Shapes
 pub mod Changed
+pub mod ChangedLimits
 pub mod ContentEdits
 pub mod TextOrder
 pub mod AttributeSpots

@@ -1,7 +1,7 @@
 //! The document (DOM sections 1.1 and 4.2.3).
 ghost use Rattle.std.specs.Prelude.{◌≡◌, ◌≢◌, ◌≤◌, true, IfErr, IfOk, OnOk, OnErr, is_some, encode_utf8_all, option_map};
 ghost use Rattle.page_model.specs.Document.{document, id_of, find, parent_of, first_child_of, next_of, prev_of, name_at, text_at, value_at};
-ghost use Rattle.page_model.specs.Edits.{document_after_drop_attr, document_after_set_text, drop_attr_causes, set_text_causes};
+ghost use Rattle.page_model.specs.Edits.{document_after_drop_attr, document_after_set_attr, document_after_set_text, drop_attr_causes, set_attr_causes, set_text_causes};
 ghost use Rattle.std.specs.Str.{chars};
 ghost use Rattle.page_model.specs.declared.limits.TheConstants.{MAX_NODES};
 ghost use Rattle.page_model.specs.Trees.{is_elem};
@@ -150,6 +150,18 @@ impl Doc {
         ensures kept { OnErr result (self.new ≡ self.old) }
     {
         elements::drop_attr(&mut self.store, id, name)
+    }
+
+    /// Gives the element `id` the attribute `name` with this value, in place of one that is there. (DOM
+    /// section 4.9, setAttribute)
+    pub fn set_attr(&mut self, id: NodeId, name: &str, value: &str) -> Result<(), DocFault>
+        ensures set { OnOk result (self.new.document
+            ≡ document_after_set_attr id (chars name.now) (chars value.now) self.old.document) }
+        ensures causes { AnswersBy (set_attr_causes id (chars name.now) (chars value.now)
+            self.old.document) result }
+        ensures kept { OnErr result (self.new ≡ self.old) }
+    {
+        elements::set_attr(&mut self.store, self.alloc, id, name, value)
     }
 }
 
