@@ -12,6 +12,7 @@ ghost use Rattle.dom_arena.specs.Shape.{shape};
 
 use crate::build::build;
 use crate::contents;
+use crate::copies::copy_store;
 use crate::elements;
 use crate::fault::DocFault;
 use crate::reading;
@@ -162,6 +163,18 @@ impl Doc {
         ensures kept { OnErr result (self.new ≡ self.old) }
     {
         elements::set_attr(&mut self.store, self.alloc, id, name, value)
+    }
+
+    /// A document of its own with the same nodes, ids and next id.
+    pub fn copy(&self, alloc: Global) -> Result<Doc, NoMemory>
+        ensures { IfOk result (λ doc. doc ≡ self.now) }
+    {
+        let store = copy_store(&self.store, alloc)?;
+        Ok(Doc {
+            alloc,
+            store,
+            root: self.root,
+        })
     }
 }
 
