@@ -1,12 +1,12 @@
 -- The attributes with and without the one at a spot.
-use Rattle.std.proofs.Common.{Bool, Greater, Less, Equal, List, Ordering, [], ap, arith, cond, drop, eq-eqb, false, inl, inr, length, refl, slice_get, slice_index_or, slice_set, subst, suc, sym, take, true, zero, ℕ, ◌++◌, ◌+◌, ◌-◌, ◌<◌, ◌==◌, ◌∙◌, ◌∷◌, ◌≡◌, ◌≤◌}
+use Rattle.std.proofs.Common.{Bool, Greater, Less, Equal, List, [], ap, arith, cond, drop, eq-eqb, false, inl, inr, length, refl, slice_index_or, subst, suc, sym, take, true, zero, ℕ, ◌++◌, ◌+◌, ◌<◌, ◌∙◌, ◌∷◌, ◌≡◌, ◌≤◌}
 use Rattle.std.proofs.lemmas.Bool.{cases_Bool, false≢true}
 use Rattle.std.specs.Prelude.{Result, Ok, Err, OnOk, OnErr}
 use Rattle.dom_arena.proofs.Lists.{drop-next, length-slice_set}
 use Rattle.dom_arena.specs.Spots.{IsWithin, attributes_with, attributes_without, behind, count_with, length_at, order_of, spot_of}
 use Rattle.dom_arena.specs.declared.spots.Spot.{Spot}
 use Rattle.dom_arena.specs.declared.spots.Spot.TheVariants.{At, Before}
-use Rattle.page_laws.proofs.AttributesInOrder.{leads, less-then-less, order-tail, order-with, other-text, same-text, text-same}
+use Rattle.page_laws.proofs.AttributesInOrder.{leads, less-then-less, order-tail, order-with, other-text, same-text}
 use Rattle.page_laws.proofs.Options.{both-true}
 use Rattle.page_model.specs.Attributes.{are_in_order, is_less_text, is_same_text, with_attribute, without_attribute}
 use Rattle.page_model.specs.Trees.{Attribute, Text, value_size}

@@ -1,28 +1,28 @@
 -- A tree of slots in which one node has other content.
-use Rattle.std.proofs.Common.{List, None, Option, Some, [], ap, arith, eq-eqb, eqb-true, inl, inr, is_some, length, ne_eqb, option_and_then, option_map, refl, slice_get, subst, sym, unwrap_or, ℕ, ◌+◌, ◌-◌, ◌<◌, ◌==◌, ◌∙◌, ◌≡◌, ◌≤◌}
+use Rattle.std.proofs.Common.{List, None, Some, [], ap, arith, eq-eqb, eqb-true, inl, inr, is_some, length, ne_eqb, option_and_then, option_map, refl, slice_get, subst, sym, ℕ, ◌==◌, ◌∙◌, ◌≡◌, ◌≤◌}
 use Rattle.std.proofs.lemmas.Bool.{cases_Bool, eqb-false}
 use Rattle.std.proofs.lemmas.Option.{none-some, same_Some}
-use Rattle.page_laws.proofs.Find.{find-id, some-among}
+use Rattle.page_laws.proofs.Find.{find-id}
 use Rattle.page_laws.proofs.Options.{none-or-some}
 use Rattle.page_laws.proofs.TreeAfterChange.{by_itself-other, children-changed, find-changed, height-changed, id_of-changed, ids-changed, name_of-changed, text_size-changed}
 use Rattle.page_laws.specs.Limits.{KeepsGrammar, KeepsLimits, own_text_size}
-use Rattle.page_model.specs.Document.{AreDistinct, Document, IsAmong, Node, by_itself, children_of, element, find, first, height, id_of, ids, ids_of, name_of, node_count, text, without_ids}
+use Rattle.page_model.specs.Document.{AreDistinct, Document, IsAmong, Node, by_itself, children_of, element, find, first, id_of, ids, ids_of, text, without_ids}
 use Rattle.page_model.specs.Edits.{tree_after_change}
 use Rattle.page_model.specs.Trees.{Attribute, Text, text_size}
 use Rattle.page_model.specs.declared.limits.TheConstants.{MAX_DEPTH, MAX_NODES, MAX_TEXTS}
 use Rattle.dom_arena.proofs.Chains.{chain-same}
 use Rattle.dom_arena.proofs.Docs.{tree-alone}
-use Rattle.dom_arena.proofs.Kept.{chain-dead, chain-same-contents, live-by-content, live-slot-same}
+use Rattle.dom_arena.proofs.Kept.{chain-dead, chain-same-contents, live-slot-same}
 use Rattle.dom_arena.proofs.Loads.{document_of, tree-doc}
 use Rattle.dom_arena.proofs.Renamed.{changed-renamed, rename-same, without-renamed}
 use Rattle.dom_arena.proofs.Written.{body-elsewhere, body-parts, get-changed-here, get-changed-other, id-changed, length-changed, place-changed}
-use Rattle.dom_arena.specs.Cells.{AreLinked, Body, Cells, IsLinked, body_of, final}
+use Rattle.dom_arena.specs.Cells.{AreLinked, Cells, IsLinked, body_of, final}
 use Rattle.dom_arena.specs.Contents.{kept_changed, total_with, with_content}
 use Rattle.dom_arena.specs.Docs.{HoldsTree, IsDoc, document_in}
 use Rattle.dom_arena.specs.Reading.{tree_in}
 use Rattle.dom_arena.specs.Rename.{rename}
-use Rattle.dom_arena.specs.Slots.{IsLive, body_at, body_in, cells_of, content_at, id_at, own_in, place_at, table_at, target}
-use Rattle.dom_arena.specs.Stores.{IsStore, Kept, size_in}
+use Rattle.dom_arena.specs.Slots.{IsLive, body_at, body_in, cells_of, id_at, own_in, table_at, target}
+use Rattle.dom_arena.specs.Stores.{IsStore, Kept}
 use Rattle.dom_arena.specs.Writes.{changed}
 use Rattle.dom_arena.specs.declared.slot.Content.{Content}
 use Rattle.dom_arena.specs.declared.slot.Slot.{Slot}

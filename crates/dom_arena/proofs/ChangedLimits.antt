@@ -1,5 +1,5 @@
 -- The limits on what each node has, after the content of one node became another.
-use Rattle.std.proofs.Common.{Bool, IsSome, List, None, Some, [], ap, arith, cond, eq-eqb, eqb-true, false, inl, inr, le-ltb, length, ltb-false, nat_lt, not, refl, subst, true, ℕ, ◌==◌, ◌||◌, ◌∙◌, ◌∷◌, ◌≡◌, ◌≤◌}
+use Rattle.std.proofs.Common.{Bool, List, None, Some, [], ap, arith, cond, eq-eqb, eqb-true, false, inl, inr, le-ltb, length, ltb-false, nat_lt, not, refl, subst, true, ℕ, ◌==◌, ◌||◌, ◌∙◌, ◌∷◌, ◌≡◌, ◌≤◌}
 use Rattle.std.proofs.lemmas.Bool.{cases_Bool}
 use Rattle.std.proofs.lemmas.Option.{none-some, same_Some}
 use Rattle.std.specs.List.{list_any}
@@ -9,7 +9,7 @@ use Rattle.page_laws.proofs.Options.{if-found, or-false, or-found}
 use Rattle.page_laws.proofs.TreeAfterChange.{changed-absent, has_node-changed, nodes_changed-absent}
 use Rattle.page_laws.specs.Limits.{KeepsGrammar}
 use Rattle.page_model.specs.Attributes.{is_less_text, is_same_text, with_attribute, without_attribute}
-use Rattle.page_model.specs.Document.{AreDistinct, IsAmong, Node, Nodes, all_ids, all_without_ids, attributes_of, element, find, find_in, id_of, ids, name_of, no_nodes, node, text, without_ids}
+use Rattle.page_model.specs.Document.{AreDistinct, IsAmong, Node, Nodes, all_ids, all_without_ids, attributes_of, element, find, find_in, id_of, ids, no_nodes, node, text, without_ids}
 use Rattle.page_model.specs.Edits.{nodes_after_change, tree_after_change, tree_after_drop_attr, tree_after_set_attr, tree_after_set_text}
 use Rattle.page_model.specs.Names.{is_name}
 use Rattle.page_model.specs.Trees.{Attribute, Text, has_node, have_node, is_badly_named, is_long}
@@ -51,13 +51,13 @@ pub dropped-grammar : (i : ℕ) (name : Text) (r : Node) → KeepsGrammar r → 
 dropped-grammar i name r g = record {
   names = has_node-changed is_badly_named (λ _. false) i (without_attribute name) (λ cs. cs) r
       (λ n xs h.
-          let parts = or-false (not (is_name n)) (list_any (λ (a : Attribute). not (is_name a.0)) xs) h in
-          or-both (not (is_name n)) (list_any (λ (a : Attribute). not (is_name a.0)) (without_attribute name xs)) parts.0 (any-without (λ (a : Attribute). not (is_name a.0)) name xs parts.1))
+      let parts = or-false (not (is_name n)) (list_any (λ (a : Attribute). not (is_name a.0)) xs) h in
+      or-both (not (is_name n)) (list_any (λ (a : Attribute). not (is_name a.0)) (without_attribute name xs)) parts.0 (any-without (λ (a : Attribute). not (is_name a.0)) name xs parts.1))
       (λ _ h. h) g.names;
   attributes = has_node-changed (λ _ xs. nat_lt MAX_ATTRIBUTES (length xs)) (λ _. false) i (without_attribute name) (λ cs. cs) r
       (λ _ xs h.
-          let few : length xs ≤ MAX_ATTRIBUTES = ltb-false MAX_ATTRIBUTES (length xs) h in
-          le-ltb MAX_ATTRIBUTES (length (without_attribute name xs)) (omega (arith, few, length-without name xs)))
+      let few : length xs ≤ MAX_ATTRIBUTES = ltb-false MAX_ATTRIBUTES (length xs) h in
+      le-ltb MAX_ATTRIBUTES (length (without_attribute name xs)) (omega (arith, few, length-without name xs)))
       (λ _ h. h) g.attributes;
   texts = has_node-changed (λ _ xs. list_any (λ (a : Attribute). is_long a.1) xs) is_long i (without_attribute name) (λ cs. cs) r
       (λ _ xs h. any-without (λ (a : Attribute). is_long a.1) name xs h) (λ _ h. h) g.texts;
@@ -128,9 +128,9 @@ pub set-grammar : (i : ℕ) (name value : Text) (r x : Node) → AreDistinct (id
 set-grammar i name value r x d f good short few g = record {
   names = has_node-changed is_badly_named (λ _. false) i (with_attribute name value) (λ cs. cs) r
       (λ n xs h.
-          let parts = or-false (not (is_name n)) (list_any (λ (a : Attribute). not (is_name a.0)) xs) h in
-          or-both (not (is_name n)) (list_any (λ (a : Attribute). not (is_name a.0)) (with_attribute name value xs)) parts.0
-          (any-with (λ (a : Attribute). not (is_name a.0)) name value xs (ap not good) parts.1))
+      let parts = or-false (not (is_name n)) (list_any (λ (a : Attribute). not (is_name a.0)) xs) h in
+      or-both (not (is_name n)) (list_any (λ (a : Attribute). not (is_name a.0)) (with_attribute name value xs)) parts.0
+      (any-with (λ (a : Attribute). not (is_name a.0)) name value xs (ap not good) parts.1))
       (λ _ h. h) g.names;
   attributes = changed-at (λ _ xs. nat_lt MAX_ATTRIBUTES (length xs)) (λ _. false) i (with_attribute name value) (λ cs. cs) r x d f (few-set i (with_attribute name value) x (find-id i r x f) few) g.attributes;
   texts = has_node-changed (λ _ xs. list_any (λ (a : Attribute). is_long a.1) xs) is_long i (with_attribute name value) (λ cs. cs) r

@@ -1,18 +1,17 @@
 -- The document after an edit of a node's own content, and the causes of its refusal, by slots.
-use Rattle.std.proofs.Common.{Bool, IsSome, List, None, Option, Some, [], ap, arith, cond, eq-eqb, false, inl, inr, is_none, is_some, le-ltb, length, ltb-false, nat_lt, not, option_and_then, option_map, refl, slice_get, subst, sym, true, ℕ, ◌+◌, ◌==◌, ◌||◌, ◌∙◌, ◌∷◌, ◌≡◌, ◌≤◌, ◌⊎◌}
-use Rattle.std.proofs.lemmas.Bool.{cases_Bool, false≢true}
+use Rattle.std.proofs.Common.{Bool, IsSome, List, None, Option, Some, [], ap, arith, eq-eqb, false, inl, inr, is_none, is_some, length, ltb-false, nat_lt, not, option_and_then, option_map, refl, slice_get, subst, sym, true, ℕ, ◌+◌, ◌||◌, ◌∙◌, ◌∷◌, ◌≡◌, ◌≤◌, ◌⊎◌}
+use Rattle.std.proofs.lemmas.Bool.{false≢true}
 use Rattle.std.proofs.lemmas.Option.{none-some, same_Some}
-use Rattle.std.specs.List.{list_any}
 use Rattle.page_laws.proofs.Find.{find-id}
 use Rattle.page_laws.proofs.Options.{none-or-some, or-false}
-use Rattle.page_laws.proofs.TreeAfterChange.{attributes_at-found, has_node-changed}
-use Rattle.page_laws.specs.Limits.{KeepsGrammar, own_text_size}
+use Rattle.page_laws.proofs.TreeAfterChange.{attributes_at-found}
+use Rattle.page_laws.specs.Limits.{own_text_size}
 use Rattle.page_model.specs.Attributes.{are_in_order, with_attribute, without_attribute}
 use Rattle.page_model.specs.Names.{is_name}
 use Rattle.page_model.specs.Document.{Document, Node, attributes_at, attributes_of, by_itself, element, find, id_of, name_at, name_of, no_nodes, text, without_ids}
 use Rattle.page_model.specs.Edits.{document_after_drop_attr, document_after_set_attr, document_after_set_text, drop_attr_causes, is_over_text_limit, set_attr_causes, set_text_causes, tree_after_change, tree_after_set_attr, tree_after_set_text}
 use Rattle.page_model.specs.Refusals.{Causes, first_of}
-use Rattle.page_model.specs.Trees.{Attribute, Text, is_badly_named, is_long, text_size, value_size}
+use Rattle.page_model.specs.Trees.{Attribute, Text, is_long, text_size, value_size}
 use Rattle.page_model.specs.declared.cause.Cause.{Cause}
 use Rattle.page_model.specs.declared.cause.Cause.TheVariants.{NoNode, NotElement, NotText, BadName, TextLimit, AttrLimit}
 use Rattle.page_model.specs.declared.limits.TheConstants.{MAX_ATTRIBUTES, MAX_TEXTS}
@@ -25,7 +24,7 @@ use Rattle.dom_arena.proofs.Releases.{slot-of-body}
 use Rattle.dom_arena.proofs.Written.{body-parts}
 use Rattle.dom_arena.specs.Cells.{body_of}
 use Rattle.dom_arena.specs.Contents.{attr_causes, drop_causes, kept_after, kept_changed, name_in_slot, others_of, size_with, size_without, text_causes, total_with, with_attributes}
-use Rattle.dom_arena.specs.Docs.{HoldsTree, IsDoc, document_in}
+use Rattle.dom_arena.specs.Docs.{IsDoc, document_in}
 use Rattle.dom_arena.specs.Faults.{AnswersBy}
 use Rattle.dom_arena.specs.Reading.{tree_in}
 use Rattle.dom_arena.specs.Rename.{rename}

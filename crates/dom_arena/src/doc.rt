@@ -11,13 +11,11 @@ ghost use Rattle.dom_arena.specs.Faults.{AnswersBy};
 ghost use Rattle.dom_arena.specs.Shape.{shape};
 
 use crate::build::build;
-use crate::contents;
 use crate::copies::copy_store;
-use crate::elements;
 use crate::fault::DocFault;
-use crate::reading;
 use crate::store::Store;
 use crate::tree::Tree;
+use crate::{contents, elements, reading};
 use port_core::{NoMemory, NodeId};
 use std::alloc::Global;
 use std::marker::Model;
