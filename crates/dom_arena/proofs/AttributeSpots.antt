@@ -1,12 +1,12 @@
 -- The attributes with and without the one at a spot.
-use Rattle.std.proofs.Common.{Bool, Greater, Less, Equal, List, Ordering, [], ap, arith, cond, drop, eq-eqb, false, inl, inr, length, refl, slice_get, slice_index_or, slice_set, subst, suc, sym, take, true, zero, ℕ, ◌++◌, ◌+◌, ◌-◌, ◌<◌, ◌==◌, ◌∙◌, ◌∷◌, ◌≡◌, ◌≤◌}
+use Rattle.std.proofs.Common.{Bool, Greater, Less, Equal, List, [], ap, arith, cond, drop, eq-eqb, false, inl, inr, length, refl, slice_index_or, subst, suc, sym, take, true, zero, ℕ, ◌++◌, ◌+◌, ◌<◌, ◌∙◌, ◌∷◌, ◌≡◌, ◌≤◌}
 use Rattle.std.proofs.lemmas.Bool.{cases_Bool, false≢true}
 use Rattle.std.specs.Prelude.{Result, Ok, Err, OnOk, OnErr}
 use Rattle.dom_arena.proofs.Lists.{drop-next, length-slice_set}
 use Rattle.dom_arena.specs.Spots.{IsWithin, attributes_with, attributes_without, behind, count_with, length_at, order_of, spot_of}
 use Rattle.dom_arena.specs.declared.spots.Spot.{Spot}
 use Rattle.dom_arena.specs.declared.spots.Spot.TheVariants.{At, Before}
-use Rattle.page_laws.proofs.AttributesInOrder.{leads, less-then-less, order-tail, order-with, other-text, same-text, text-same}
+use Rattle.page_laws.proofs.AttributesInOrder.{leads, less-then-less, order-tail, order-with, other-text, same-text}
 use Rattle.page_laws.proofs.Options.{both-true}
 use Rattle.page_model.specs.Attributes.{are_in_order, is_less_text, is_same_text, with_attribute, without_attribute}
 use Rattle.page_model.specs.Trees.{Attribute, Text, value_size}
@@ -118,16 +118,19 @@ spot-size name value (a ∷ xs) = elim (cases_Bool (is_same_text name a.0)) [
   ]
 ]
 
--- the sizes without the attribute
+-- what is left is without the value at the spot
+size-left : (xs : List Attribute) (s : Spot) → value_size (attributes_without s xs) + length_at s xs ≡ value_size xs
+size-left xs (Before i) = omega arith
+size-left [] (At zero) = refl
+size-left [] (At (suc i)) = refl
+size-left (x ∷ xs) (At zero) = omega arith
+size-left (x ∷ xs) (At (suc i)) = let rest = size-left xs (At i) in omega (arith, rest)
+
+pub spot-length : (xs : List Attribute) (s : Spot) → length_at s xs ≤ value_size xs
+spot-length xs s = let left = size-left xs s in omega (arith, left)
+
 pub spot-size-without : (name : Text) (xs : List Attribute) → are_in_order xs ≡ true → value_size (without_attribute name xs) + length_at (spot_of name xs) xs ≡ value_size xs
-spot-size-without name xs o = rw (← spot-without name xs o) (by-spot xs (spot_of name xs))
-  where
-    by-spot : (ys : List Attribute) (s : Spot) → value_size (attributes_without s ys) + length_at s ys ≡ value_size ys
-    by-spot ys (Before i) = omega arith
-    by-spot [] (At zero) = refl
-    by-spot [] (At (suc i)) = refl
-    by-spot (y ∷ ys) (At zero) = omega arith
-    by-spot (y ∷ ys) (At (suc i)) = let rest = by-spot ys (At i) in omega (arith, rest)
+spot-size-without name xs o = rw (← spot-without name xs o) (size-left xs (spot_of name xs))
 
 -- ---- the search
 

@@ -1,28 +1,28 @@
 -- A tree of slots in which one node has other content.
-use Rattle.std.proofs.Common.{List, None, Option, Some, [], ap, arith, eq-eqb, eqb-true, inl, inr, is_some, length, ne_eqb, option_and_then, option_map, refl, slice_get, subst, sym, unwrap_or, ℕ, ◌+◌, ◌-◌, ◌<◌, ◌==◌, ◌∙◌, ◌≡◌, ◌≤◌}
+use Rattle.std.proofs.Common.{List, None, Some, [], ap, arith, eq-eqb, eqb-true, inl, inr, is_some, length, ne_eqb, option_and_then, option_map, refl, slice_get, subst, sym, ℕ, ◌==◌, ◌∙◌, ◌≡◌, ◌≤◌}
 use Rattle.std.proofs.lemmas.Bool.{cases_Bool, eqb-false}
 use Rattle.std.proofs.lemmas.Option.{none-some, same_Some}
-use Rattle.page_laws.proofs.Find.{find-id, some-among}
+use Rattle.page_laws.proofs.Find.{find-id}
 use Rattle.page_laws.proofs.Options.{none-or-some}
 use Rattle.page_laws.proofs.TreeAfterChange.{by_itself-other, children-changed, find-changed, height-changed, id_of-changed, ids-changed, name_of-changed, text_size-changed}
 use Rattle.page_laws.specs.Limits.{KeepsGrammar, KeepsLimits, own_text_size}
-use Rattle.page_model.specs.Document.{AreDistinct, Document, IsAmong, Node, by_itself, children_of, element, find, first, height, id_of, ids, ids_of, name_of, node_count, text, without_ids}
+use Rattle.page_model.specs.Document.{AreDistinct, Document, IsAmong, Node, by_itself, children_of, element, find, first, id_of, ids, ids_of, text, without_ids}
 use Rattle.page_model.specs.Edits.{tree_after_change}
 use Rattle.page_model.specs.Trees.{Attribute, Text, text_size}
 use Rattle.page_model.specs.declared.limits.TheConstants.{MAX_DEPTH, MAX_NODES, MAX_TEXTS}
 use Rattle.dom_arena.proofs.Chains.{chain-same}
 use Rattle.dom_arena.proofs.Docs.{tree-alone}
-use Rattle.dom_arena.proofs.Kept.{chain-dead, chain-same-contents, live-by-content, live-slot-same}
+use Rattle.dom_arena.proofs.Kept.{chain-dead, chain-same-contents, live-slot-same}
 use Rattle.dom_arena.proofs.Loads.{document_of, tree-doc}
 use Rattle.dom_arena.proofs.Renamed.{changed-renamed, rename-same, without-renamed}
 use Rattle.dom_arena.proofs.Written.{body-elsewhere, body-parts, get-changed-here, get-changed-other, id-changed, length-changed, place-changed}
-use Rattle.dom_arena.specs.Cells.{AreLinked, Body, Cells, IsLinked, body_of, final}
+use Rattle.dom_arena.specs.Cells.{AreLinked, Cells, IsLinked, body_of, final}
 use Rattle.dom_arena.specs.Contents.{kept_changed, total_with, with_content}
 use Rattle.dom_arena.specs.Docs.{HoldsTree, IsDoc, document_in}
 use Rattle.dom_arena.specs.Reading.{tree_in}
 use Rattle.dom_arena.specs.Rename.{rename}
-use Rattle.dom_arena.specs.Slots.{IsLive, body_at, body_in, cells_of, content_at, id_at, own_in, place_at, table_at, target}
-use Rattle.dom_arena.specs.Stores.{IsStore, Kept, size_in}
+use Rattle.dom_arena.specs.Slots.{IsLive, body_at, body_in, cells_of, id_at, own_in, table_at, target}
+use Rattle.dom_arena.specs.Stores.{IsStore, Kept}
 use Rattle.dom_arena.specs.Writes.{changed}
 use Rattle.dom_arena.specs.declared.slot.Content.{Content}
 use Rattle.dom_arena.specs.declared.slot.Slot.{Slot}
@@ -214,3 +214,15 @@ doc-edited k x i y f points a t m s e grammar fits =
     let same : document_of now n ≡ d = λ j. record { root = root j; next_id = length k.table } in
     let is = tree-doc now x n (holds-edited k x i y f points a t m s e) (subst KeepsLimits (sym same) (limits-changed (document_in k x) i a t e.doc.limits grammar fits)) in
     (is.0 ∙ same, is.1)
+
+-- where the node has no more code points than before, no limit on texts is broken
+pub smaller-edited : (k : Kept) (x i y : ℕ) (f : Content → Content) (points : ℕ) (a : List Attribute → List Attribute) (t : Text → Text) (m : Node) (s : Slot) → Edited k x i y f points a t m s
+    → points ≤ s.size → text_size (without_ids (tree_after_change i a t (document_in k x).root)) ≤ MAX_TEXTS
+smaller-edited k x i y f points a t m s e less =
+    let n : Node = tree_in k.slots x in
+    let after = text_size-changed y a t n m e.doc.tree.distinct e.found in
+    let own : s.size ≡ own_text_size m = (body-parts y s (body_of m) e.body).4 in
+    let same = total-edited k x i y f points a t m s e in
+    let all = points-edited k x i y f points a t m s e in
+    let before : text_size (without_ids (document_in k x).root) ≡ text_size (without_ids n) = ap text_size (without-renamed (id_at k.slots) n) in
+    omega (arith, after, own, same, all, before, e.size, less, e.doc.limits.code_points)

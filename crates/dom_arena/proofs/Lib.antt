@@ -23,6 +23,7 @@ pub mod Removed
 pub mod Deepest
 pub mod Inserts
 pub mod Changed
+pub mod ChangedLimits
 pub mod ContentEdits
 pub mod TextOrder
 pub mod AttributeSpots

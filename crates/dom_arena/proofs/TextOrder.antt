@@ -1,5 +1,5 @@
 -- Two texts are compared from the front on.
-use Rattle.std.proofs.Common.{Bool, Equal, Greater, Less, List, None, Option, Some, [], ap, arith, false, inl, inr, is_some, length, eq-eqb, ne_eqb, refl, sym, true, ℕ, ◌++◌, ◌==◌, ◌∙◌, ◌∷◌, ◌≡◌}
+use Rattle.std.proofs.Common.{Equal, Greater, Less, List, None, Option, Some, [], ap, arith, false, inl, inr, is_some, length, eq-eqb, ne_eqb, refl, sym, true, ℕ, ◌++◌, ◌==◌, ◌∙◌, ◌∷◌, ◌≡◌}
 use Rattle.std.proofs.lemmas.Bool.{cases_Bool, false≢true}
 use Rattle.std.proofs.lemmas.Option.{none-some, same_Some}
 use Rattle.std.proofs.lemmas.Str.{chars-nil, chars_past_char}

@@ -1,5 +1,5 @@
 -- Where the attribute with a name stands in the order of names.
-use Rattle.std.specs.Prelude.{Bool, List, [], ◌∷◌, ℕ, ◌+◌, ◌<◌, ◌≤◌, if◌then◌else◌, length, suc, zero, Option, Some, None, slice_get, slice_set}
+use Rattle.std.specs.Prelude.{List, [], ◌∷◌, ℕ, ◌+◌, ◌<◌, ◌≤◌, if◌then◌else◌, length, Option, Some, None, slice_get, slice_set}
 use Rattle.std.specs.List.{insert, remove}
 use Rattle.std.specs.declared.cmp.Ordering.TheVariants.{Less, Equal, Greater}
 use Rattle.std.specs.declared.cmp.Ordering.{Ordering}

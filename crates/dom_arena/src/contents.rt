@@ -40,8 +40,11 @@ fn is_element(content: &Content) -> bool
 /// Returns the number of code points of `text`, unless they are too many, by themselves or together
 /// with `others`.
 pub fn check_length(text: &str, others: u32) -> Result<u32, DocFault>
-    ensures causes { ChecksBy ((is_long (chars text.now)
-        || nat_lt MAX_TEXTS (others + length (chars text.now)), TextLimit) ∷ []) result }
+    ensures causes { ChecksBy ((
+      is_long (chars text.now)
+          || nat_lt MAX_TEXTS (others + length (chars text.now)),
+      TextLimit,
+    ) ∷ []) result }
     ensures size { IfOk result (λ size. size ≡ length (chars text.now)) }
     ensures few { IfOk result (λ size. others + size ≤ MAX_TEXTS) }
 {

@@ -1,26 +1,25 @@
 //! The document (DOM sections 1.1 and 4.2.3).
 ghost use Rattle.std.specs.Prelude.{◌≡◌, ◌≢◌, ◌≤◌, true, IfOk, IfErr, OnOk, OnErr, is_some, encode_utf8_all, option_map};
 ghost use Rattle.page_model.specs.Document.{document, id_of, find, parent_of, first_child_of, next_of, prev_of, name_at, text_at, value_at};
-ghost use Rattle.page_model.specs.Edits.{document_after_set_text, set_text_causes};
+ghost use Rattle.page_model.specs.Edits.{document_after_drop_attr, document_after_set_attr, document_after_set_text, drop_attr_causes, set_attr_causes, set_text_causes};
 ghost use Rattle.std.specs.Str.{chars};
 ghost use Rattle.page_model.specs.declared.limits.TheConstants.{MAX_NODES};
-ghost use Rattle.page_model.specs.Edits.{document_after_insert, document_after_remove, insert_causes, remove_causes};
+ghost use Rattle.page_model.specs.Edits.{document_after_insert, document_after_remove, insert_causes, load_causes, remove_causes};
 ghost use Rattle.page_model.specs.Trees.{is_elem};
 ghost use Rattle.page_laws.specs.Limits.{KeepsLimits};
 ghost use Rattle.dom_arena.specs.Docs.{IsDocument};
 ghost use Rattle.dom_arena.specs.Faults.{AnswersBy};
-ghost use Rattle.page_model.specs.Edits.{document_after_remove, load_causes, remove_causes};
 ghost use Rattle.dom_arena.specs.Shape.{shape};
 
 use crate::build::build;
+use crate::copies::copy_store;
 use crate::fault::DocFault;
 use crate::insert::{insert_slot, insert_tree};
 use crate::limits::{self, Taken};
-use crate::contents;
-use crate::reading;
 use crate::remove::{inner_slot, remove_tree};
 use crate::store::Store;
 use crate::tree::Tree;
+use crate::{contents, elements, reading};
 use port_core::{NoMemory, NodeId};
 use std::alloc::Global;
 use std::marker::Model;
@@ -195,6 +194,42 @@ impl Doc {
         ensures kept { OnErr result (self.new ≡ self.old) }
     {
         contents::set_text(&mut self.store, self.alloc, id, text)
+    }
+
+    /// Takes the attribute `name` from the element `id`, if it is there; takes no memory. (DOM section 4.9,
+    /// removeAttribute)
+    pub fn drop_attr(&mut self, id: NodeId, name: &str) -> Result<(), DocFault>
+        ensures dropped { OnOk result (self.new.document
+            ≡ document_after_drop_attr id (chars name.now) self.old.document) }
+        ensures causes { AnswersBy (drop_attr_causes id self.old.document) result }
+        ensures without_memory { IfErr result (λ e. e ≢ DocFault.NoMemory) }
+        ensures kept { OnErr result (self.new ≡ self.old) }
+    {
+        elements::drop_attr(&mut self.store, id, name)
+    }
+
+    /// Gives the element `id` the attribute `name` with this value, in place of one that is there. (DOM
+    /// section 4.9, setAttribute)
+    pub fn set_attr(&mut self, id: NodeId, name: &str, value: &str) -> Result<(), DocFault>
+        ensures set { OnOk result (self.new.document
+            ≡ document_after_set_attr id (chars name.now) (chars value.now) self.old.document) }
+        ensures causes { AnswersBy (set_attr_causes id (chars name.now) (chars value.now)
+            self.old.document) result }
+        ensures kept { OnErr result (self.new ≡ self.old) }
+    {
+        elements::set_attr(&mut self.store, self.alloc, id, name, value)
+    }
+
+    /// A document of its own with the same nodes, ids and next id.
+    pub fn copy(&self, alloc: Global) -> Result<Doc, NoMemory>
+        ensures { IfOk result (λ doc. doc ≡ self.now) }
+    {
+        let store = copy_store(&self.store, alloc)?;
+        Ok(Doc {
+            alloc,
+            store,
+            root: self.root,
+        })
     }
 }
 

@@ -71,10 +71,7 @@ fn check_drop(at: Option<&Slot>, name: &str) -> Result<u32, DocFault>
         return Err(DocFault::NotElement);
     };
     let attributes = attributes.as_slice();
-    Ok(less(
-        slot.size,
-        length_at(spot_of(attributes, name), attributes),
-    ))
+    Ok(less(slot.size, length_at(spot_of(attributes, name), attributes)))
 }
 
 fn set_in(content: &mut Content, alloc: Global, name: &str, value: &str) -> Result<(), NoMemory>

@@ -4,6 +4,7 @@
 mod attrs;
 mod build;
 mod contents;
+mod copies;
 mod counts;
 mod doc;
 mod elements;

@@ -1,4 +1,4 @@
-use Rattle.std.proofs.Common.{rules, ◌≡◌, ◌∙◌, List, ap, true}
+use Rattle.std.proofs.Common.{rules, ◌≡◌, ◌∙◌, List, ap}
 use Rattle.std.specs.Str.{chars}
 use Rattle.page_laws.proofs.AttributesInOrder.{order-without}
 use Rattle.page_model.specs.Attributes.{are_in_order, without_attribute}
