@@ -27,3 +27,4 @@ pub mod ChangedLimits
 pub mod ContentEdits
 pub mod TextOrder
 pub mod AttributeSpots
+pub mod BehindAll

@@ -1,5 +1,7 @@
 //! Where the attribute with a name stands in the order of names (DOM section 4.9).
-ghost use Rattle.std.specs.Prelude.{◌≡◌, ◌<◌, if◌then◌else◌, nat_lt, length, OnOk, OnErr};
+ghost use Rattle.std.specs.Prelude.{◌≡◌, ◌<◌, if◌then◌else◌, nat_lt, length, true, OnOk, OnErr};
+ghost use Rattle.page_model.specs.Attributes.{are_in_order};
+ghost use Rattle.dom_arena.specs.declared.spots.Spot.TheVariants.{Before};
 ghost use Rattle.std.specs.declared.cmp.Ordering.TheVariants.{Less, Greater};
 ghost use Rattle.std.specs.Str.{chars};
 ghost use Rattle.dom_arena.specs.Spots as spots;
@@ -51,11 +53,31 @@ fn compare(a: &str, b: &str) -> Ordering
     }
 }
 
-/// Returns where the attribute `name` stands.
+/// Whether the last attribute stands before `name`, so that all do.
+fn are_before(attributes: &[Attribute], name: &str) -> bool
+    requires { are_in_order attributes.now ≡ true }
+    ensures { result ≡ true
+        → spots.spot_of (chars name.now) attributes.now ≡ Before (length attributes.now) }
+{
+    let count = attributes.len();
+    if count == 0 {
+        return true;
+    }
+    match compare(name, attributes[count - 1].0.as_str()) {
+        Ordering::Greater => true,
+        Ordering::Less | Ordering::Equal => false,
+    }
+}
+
+/// Returns where the attribute `name` stands; behind all is found at once.
 pub fn spot_of(attributes: &[Attribute], name: &str) -> Spot
+    requires order { are_in_order attributes.now ≡ true }
     ensures spot { result ≡ spots.spot_of (chars name.now) attributes.now }
     ensures within { IsWithin result (length attributes.now) }
 {
+    if are_before(attributes, name) {
+        return Spot::Before(attributes.len());
+    }
     for i in 0..attributes.len() {
         match compare(name, attributes[i].0.as_str()) {
             Ordering::Equal => return Spot::At(i),
