@@ -27,3 +27,8 @@ pub mod ChangedLimits
 pub mod ContentEdits
 pub mod TextOrder
 pub mod AttributeSpots
+pub mod MovedLimits
+pub mod Within
+pub mod MoveCauses
+pub mod MovedTree
+pub mod MoveTests
