@@ -50,13 +50,12 @@ climbs-more k at up parent steps h e x d a =
     let n : Node = tree_in k.slots x in
     let is = h x d a in
     let hangs : parent_of up n ≡ Some parent = sym (up-parent k x up d is.0) ∙ e in
-    let p = parent-node n up parent d.tree.distinct hangs in
-    (
+    let p = parent-node n up parent d.tree.distinct hangs in (
       tree-live k x n d.tree parent (subst (λ (q : ℕ). IsAmong q (ids n)) (same_Some (id_of p.0) parent (ap (option_and_then (λ (q : Node). Some (id_of q))) (sym p.1) ∙ hangs)) (parent-among up n p.0 p.1).1),
       is.1 ∙ (ap (option_map (λ l. l + steps)) (level-child n up parent d.tree.distinct hangs) ∙ later (level parent n) steps),
     )
 
-no-parent : (y : ℕ) (n : Node) → parent_of y n ≡ None → parent_in y n ≡ None
+pub no-parent : (y : ℕ) (n : Node) → parent_of y n ≡ None → parent_in y n ≡ None
 no-parent y n e = elim (none-or-some (parent_in y n)) [
   | inl none ↦ none
   | inr some ↦ absurd (none-some (id_of some.0) (sym e ∙ ap (option_and_then (λ (p : Node). Some (id_of p))) some.1))
@@ -71,7 +70,7 @@ climbs-top k at up steps x h e d a =
     let top : up ≡ id_of n = top-alone up n (d.tree.only up is.0) (no-parent up n (sym (up-parent k x up d is.0) ∙ e)) in
     is.1 ∙ ap (option_map (λ l. l + steps)) (ap (λ (i : ℕ). level i n) top ∙ level-top n) ∙ ap Some (omega arith)
 
-level-one : (i l : ℕ) (n : Node) → level i n ≡ Some l → 1 ≤ l
+pub level-one : (i l : ℕ) (n : Node) → level i n ≡ Some l → 1 ≤ l
 level-one i l (element id name attributes children) e = elim (level-element (i == id) (level_in i children) l e) [
   | inl k ↦ omega (arith, k.1)
   | inr k ↦ omega (arith, k.1.2)

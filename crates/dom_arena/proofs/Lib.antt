@@ -28,3 +28,8 @@ pub mod ContentEdits
 pub mod TextOrder
 pub mod AttributeSpots
 pub mod BehindAll
+pub mod MovedLimits
+pub mod Within
+pub mod MoveCauses
+pub mod MovedTree
+pub mod MoveTests

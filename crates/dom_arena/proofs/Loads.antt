@@ -46,7 +46,7 @@ mutual
     | inr k ↦ let rest = all_part-length i ms n k.1 in omega (arith, rest, length-append (ids m) (all_ids ms))
   ]
 
-few-children : (root : Node) (many : ℕ) → node_count root ≤ many → AreFew many root
+pub few-children : (root : Node) (many : ℕ) → node_count root ≤ many → AreFew many root
 few-children root many few i n e =
     let part = part-length i root n e in
     omega (arith, few, part, children-count n)

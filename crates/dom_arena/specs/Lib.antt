@@ -18,3 +18,4 @@ pub mod Heights
 pub mod Inserting
 pub mod Contents
 pub mod Spots
+pub mod Moving

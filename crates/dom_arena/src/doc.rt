@@ -4,7 +4,7 @@ ghost use Rattle.page_model.specs.Document.{document, id_of, find, parent_of, fi
 ghost use Rattle.page_model.specs.Edits.{document_after_drop_attr, document_after_set_attr, document_after_set_text, drop_attr_causes, set_attr_causes, set_text_causes};
 ghost use Rattle.std.specs.Str.{chars};
 ghost use Rattle.page_model.specs.declared.limits.TheConstants.{MAX_NODES};
-ghost use Rattle.page_model.specs.Edits.{document_after_insert, document_after_remove, insert_causes, load_causes, remove_causes};
+ghost use Rattle.page_model.specs.Edits.{document_after_insert, document_after_move, document_after_remove, insert_causes, load_causes, move_causes, remove_causes};
 ghost use Rattle.page_model.specs.Trees.{is_elem};
 ghost use Rattle.page_laws.specs.Limits.{KeepsLimits};
 ghost use Rattle.dom_arena.specs.Docs.{IsDocument};
@@ -16,6 +16,7 @@ use crate::copies::copy_store;
 use crate::fault::DocFault;
 use crate::insert::{insert_slot, insert_tree};
 use crate::limits::{self, Taken};
+use crate::move_to::{check_move, move_tree};
 use crate::remove::{inner_slot, remove_tree};
 use crate::store::Store;
 use crate::tree::Tree;
@@ -183,6 +184,30 @@ impl Doc {
     {
         let at = inner_slot(&self.store, self.root, id)?;
         remove_tree(&mut self.store, at);
+        Ok(())
+    }
+
+    /// Makes the node `id` the child at `index` of `parent`; `index` counts the children without it.
+    /// Takes no memory (DOM section 4.2.3, remove and insert).
+    ///
+    /// # Errors
+    ///
+    /// The first of `NoNode`; `IsRoot` for the root; `NotElement` where `parent` is a text; `Cycle` where
+    /// it is the node itself or stands below it; `BadIndex`; `DepthLimit`. Then nothing has changed.
+    pub fn move_to(&mut self, id: NodeId, parent: NodeId, index: usize) -> Result<(), DocFault>
+        ensures moved { OnOk result (self.new.document ≡ document_after_move id parent index self.old.document) }
+        ensures causes { AnswersBy (move_causes id parent index self.old.document) result }
+        ensures without_memory { IfErr result (λ e. e ≢ DocFault.NoMemory) }
+        ensures kept { OnErr result (self.new ≡ self.old) }
+    {
+        let Some(at) = self.store.at(id) else {
+            return Err(DocFault::NoNode);
+        };
+        let Some(up) = self.store.at(parent) else {
+            return Err(DocFault::NoNode);
+        };
+        check_move(&self.store, self.root, at, up, index)?;
+        move_tree(&mut self.store, at, up, index);
         Ok(())
     }
 

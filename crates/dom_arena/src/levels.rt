@@ -12,7 +12,7 @@ use crate::store::Store;
 use page_model::MAX_DEPTH;
 
 /// Returns the parent of the node in the slot `at`.
-fn parent_of(slots: &[Slot], at: u32) -> Link
+pub fn parent_of(slots: &[Slot], at: u32) -> Link
     ensures { result ≡ up_link (slice_get slots.now at) }
 {
     match slots.get(at as usize) {

@@ -45,5 +45,10 @@ pub fn examples_of_jsonml()
         (item (string (codes "t")) (item (object no_members) no_items)))) ≡ None }
     ensures attribute_is_a_string { tree_of (array (item (string (codes "p"))
         (item (object (member (codes "a") (number (unsigned 1)) no_members)) no_items))) ≡ None }
+    ensures attributes_in_order { tree_of (array (item (string (codes "p"))
+        (item (object (member (codes "b") (string (codes "1")) (member (codes "a") (string (codes "2"))
+        (member (codes "b") (string (codes "3")) no_members)))) no_items)))
+        ≡ Some (elem (chars (codes "p")) ((chars (codes "a"), chars (codes "2"))
+        ∷ (chars (codes "b"), chars (codes "3")) ∷ []) no_trees) }
     ensures no_name { tree_of (array no_items) ≡ None }
 {}

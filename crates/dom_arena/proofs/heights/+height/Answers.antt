@@ -1,5 +1,5 @@
-use Rattle.std.proofs.Common.{None, Some, ap, arith, min, rules, suc, sym, ◌+◌, ◌-◌, ◌^◌, ◌∙◌, ◌≡◌}
-use Rattle.page_model.specs.Document.{height, heights, nodes_of}
+use Rattle.std.proofs.Common.{None, Some, ap, arith, rules, suc, ◌+◌, ◌-◌, ◌∙◌, ◌≡◌}
+use Rattle.page_model.specs.Document.{height}
 use Rattle.page_model.specs.declared.limits.TheConstants.{MAX_NODES}
 use Rattle.dom_arena.specs.Reading.{below}
 use Rattle.dom_arena.specs.Slots.{cells_of, target}
