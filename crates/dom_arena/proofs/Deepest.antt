@@ -6,7 +6,6 @@ use Rattle.dom_arena.specs.Heights.{first_below, first_of_element}
 use Rattle.dom_arena.specs.Reading.{below, node_of, siblings}
 use Rattle.dom_arena.specs.Slots.{body_in, cells_of, own_in, place_at, target}
 use Rattle.page_model.specs.Document.{Node, before, first, height, heights, nodes_of}
-use Rattle.page_model.specs.Trees.{size}
 use Rattle.dom_arena.specs.declared.slot.Content.{Content}
 use Rattle.dom_arena.specs.declared.slot.Content.TheVariants.{Chars, Element, Free}
 use Rattle.dom_arena.specs.declared.slot.Slot.{Slot}

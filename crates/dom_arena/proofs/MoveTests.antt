@@ -13,10 +13,11 @@ use Rattle.dom_arena.proofs.Within.{within-node}
 use Rattle.dom_arena.proofs.Written.{body-parts}
 use Rattle.dom_arena.specs.Cells.{body_of}
 use Rattle.dom_arena.specs.Docs.{IsDoc}
+use Rattle.dom_arena.specs.Inserting.{name_in_slot}
 use Rattle.dom_arena.specs.Moving.{leads_to}
 use Rattle.dom_arena.specs.Reading.{below, tree_in}
 use Rattle.dom_arena.specs.Rename.{rename}
-use Rattle.dom_arena.specs.Slots.{IsLive, cells_of, child_number, content_at, id_at, name_in, own_in, target, up_link}
+use Rattle.dom_arena.specs.Slots.{IsLive, cells_of, child_number, id_at, name_in, own_in, target, up_link}
 use Rattle.dom_arena.specs.Stores.{Kept}
 use Rattle.page_laws.proofs.Find.{find-id}
 use Rattle.page_laws.proofs.FirstOf.{both-false}
@@ -28,12 +29,10 @@ use Rattle.page_laws.proofs.TreeAfterMove.{without-absent}
 use Rattle.page_laws.proofs.TreeAfterRemove.{left-some, list-left}
 use Rattle.page_laws.specs.ChildLists.{ids_without}
 use Rattle.page_model.specs.Document.{AreDistinct, IsAmong, Node, by_itself, child_ids, element, find, height, id_of, ids, name_at, name_of, parent_of, text}
-use Rattle.page_model.specs.DocumentCode.{top}
 use Rattle.page_model.specs.Edits.{child_count, height_at, is_within, level, tree_after_remove}
 use Rattle.page_model.specs.Trees.{Text}
 use Rattle.dom_arena.specs.declared.slot.Content.{Content}
 use Rattle.dom_arena.specs.declared.slot.Content.TheVariants.{Chars, Element, Free}
-use Rattle.dom_arena.specs.declared.slot.Slot.{Slot}
 use Rattle.page_model.specs.declared.limits.TheConstants.{MAX_DEPTH, MAX_NODES}
 
 -- ---- whether the new parent is an element
@@ -47,13 +46,13 @@ own-name x (Element name attributes) own e = ap name_of (same_Some _ own e)
 own-name x (Chars cs) own e = ap name_of (same_Some _ own e)
 own-name x (Free next) own e = absurd (none-some own e)
 
-pub test-element : (k : Kept) (x q : ℕ) → IsDoc k x → IsLive k.slots q → is_some (option_and_then name_in (content_at k.slots q)) ≡ is_some (name_at q (tree_in k.slots x))
+pub test-element : (k : Kept) (x q : ℕ) → IsDoc k x → IsLive k.slots q → is_some (name_in_slot (slice_get k.slots q)) ≡ is_some (name_at q (tree_in k.slots x))
 test-element k x q d h =
     let n : Node = tree_in k.slots x in
     let m = slot-node k x n q d.tree h in
     let s = slot-of-body k.slots q (body_of m.0) m.1.1 in
     let own = (body-parts q s.0 (body_of m.0) s.2).0 in
-    ap (λ o. is_some (option_and_then name_in (option_map (λ (t : Slot). t.content) o))) s.1
+    ap (λ o. is_some (name_in_slot o)) s.1
     ∙ (ap is_some (own-name q s.0.content (by_itself m.0) own ∙ name-itself m.0) ∙ sym (ap (λ o. is_some (option_and_then name_of o)) m.1.0))
 
 -- ---- how many children the new parent has without the node
@@ -167,8 +166,8 @@ some-is-not : (o : Option Text) → is_some o ≡ true → is_none o ≡ false
 some-is-not None e = absurd (false≢true e)
 some-is-not (Some t) e = refl
 
-pub is-plain : (k : Kept) (x q : ℕ) → IsDoc k x → IsLive k.slots q → is_some (option_and_then name_in (content_at k.slots q)) ≡ false → is_none (name_at q (tree_in k.slots x)) ≡ true
+pub is-plain : (k : Kept) (x q : ℕ) → IsDoc k x → IsLive k.slots q → is_some (name_in_slot (slice_get k.slots q)) ≡ false → is_none (name_at q (tree_in k.slots x)) ≡ true
 is-plain k x q d h e = none-is (name_at q (tree_in k.slots x)) (sym (test-element k x q d h) ∙ e)
 
-pub not-plain : (k : Kept) (x q : ℕ) → IsDoc k x → IsLive k.slots q → is_some (option_and_then name_in (content_at k.slots q)) ≡ true → is_none (name_at q (tree_in k.slots x)) ≡ false
+pub not-plain : (k : Kept) (x q : ℕ) → IsDoc k x → IsLive k.slots q → is_some (name_in_slot (slice_get k.slots q)) ≡ true → is_none (name_at q (tree_in k.slots x)) ≡ false
 not-plain k x q d h e = some-is-not (name_at q (tree_in k.slots x)) (sym (test-element k x q d h) ∙ e)

@@ -23,7 +23,6 @@ use Rattle.dom_arena.specs.Rename.{IsAlone, rename}
 use Rattle.dom_arena.specs.Slots.{IsLive, body_at, cells_of, id_at}
 use Rattle.dom_arena.specs.Stores.{Kept}
 use Rattle.dom_arena.specs.Taking.{IsDocOf, taken_out}
-use Rattle.dom_arena.specs.Views.{kept}
 use Rattle.page_laws.proofs.Find.{among-find, among-top, child-below, find-distinct, find-id, find-part, some-among}
 use Rattle.page_laws.proofs.IsAmong.{among-is_among}
 use Rattle.page_laws.proofs.Levels.{level-found}
@@ -36,8 +35,7 @@ use Rattle.page_laws.proofs.TreeAfterMove.{among-moved, fits-left, move-is, node
 use Rattle.page_laws.proofs.TreeAfterRemove.{among-kept, distinct-removed, id_of-removed, name_of-removed, node_count-removed, spliced-removed}
 use Rattle.page_laws.specs.Ids.{CanMove}
 use Rattle.page_laws.specs.Limits.{KeepsLimits}
-use Rattle.page_model.specs.Document.{AreDistinct, IsAmong, Node, children_of, element, find, height, id_of, ids, ids_of, name_at, name_of, node_count, without_ids}
-use Rattle.page_model.specs.DocumentCode.{top}
+use Rattle.page_model.specs.Document.{AreDistinct, IsAmong, Node, children_of, find, height, id_of, ids, ids_of, name_at, name_of, node_count, without_ids}
 use Rattle.page_model.specs.Edits.{child_count, document_after_move, height_at, is_within, level, move_causes, tree_after_insert, tree_after_move, tree_after_remove}
 use Rattle.page_model.specs.Refusals.{first_of}
 use Rattle.page_model.specs.Trees.{Text, text_size}

@@ -29,7 +29,7 @@ use Rattle.page_laws.proofs.Siblings.{children-distinct}
 use Rattle.page_laws.proofs.Spliced.{Spliced, part-apart, spliced-among}
 use Rattle.page_laws.proofs.TreeAfterRemove.{distinct-removed, id_of-removed, name_of-removed, node_count-removed, spliced-removed, text_size-removed}
 use Rattle.page_laws.specs.Limits.{KeepsLimits}
-use Rattle.page_model.specs.Document.{AreDistinct, IsAmong, Node, after, before, children_of, find, height, id_of, ids, ids_of, is_among, name_of, node_count, parent_in, without_ids}
+use Rattle.page_model.specs.Document.{AreDistinct, IsAmong, Node, children_of, find, height, id_of, ids, ids_of, is_among, name_of, node_count, parent_in, without_ids}
 use Rattle.page_model.specs.Edits.{document_after_remove, remove_causes, tree_after_remove}
 use Rattle.page_model.specs.Refusals.{first_of}
 use Rattle.page_model.specs.Trees.{text_size}

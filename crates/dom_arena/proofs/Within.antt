@@ -18,7 +18,6 @@ use Rattle.page_laws.proofs.ParentOf.{listed-parent, parent-among, parent-child,
 use Rattle.page_laws.proofs.Spliced.{part-apart}
 use Rattle.page_laws.proofs.TreeAfterRemove.{id_of-removed, spliced-removed}
 use Rattle.page_model.specs.Document.{AreDistinct, IsAmong, Node, find, height, id_of, ids, is_among, parent_in, parent_of}
-use Rattle.page_model.specs.DocumentCode.{top}
 use Rattle.page_model.specs.Edits.{is_within, level, tree_after_remove}
 use Rattle.page_model.specs.declared.limits.TheConstants.{MAX_DEPTH}
 

@@ -25,7 +25,7 @@ use port_core::{NoMemory, NodeId};
 use std::alloc::Global;
 
 /// Whether an element stands in the slot `at`.
-fn is_element(slots: &[Slot], at: u32) -> bool
+pub fn is_element(slots: &[Slot], at: u32) -> bool
     ensures { result ≡ is_some (name_in_slot (slice_get slots.now at)) }
 {
     match slots.get(at as usize) {

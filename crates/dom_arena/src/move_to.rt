@@ -15,27 +15,15 @@ ghost use Rattle.dom_arena.specs.Views.{kept};
 
 use crate::fault::DocFault;
 use crate::heights::height;
+use crate::insert::is_element;
 use crate::levels::{level, parent_of};
 use crate::links::attach;
 use crate::places::place;
 use crate::release;
 use crate::remove::take_out;
-use crate::slot::{Content, Slot};
+use crate::slot::Slot;
 use crate::store::Store;
 use page_model::MAX_DEPTH;
-
-/// Whether an element stands in the slot `at`.
-fn is_element(slots: &[Slot], at: u32) -> bool
-    ensures { result ≡ is_some (option_and_then name_in (content_at slots.now at)) }
-{
-    match slots.get(at as usize) {
-        Some(slot) => match &slot.content {
-            Content::Element(_, _) => true,
-            Content::Chars(_) | Content::Free(_) => false,
-        },
-        None => false,
-    }
-}
 
 /// Whether the node in the slot `from` is that in the slot `at`, which is not the root, or stands below
 /// it. Its time is linear in the level of `from`.

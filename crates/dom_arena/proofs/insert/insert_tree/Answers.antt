@@ -29,7 +29,7 @@ returns-in-Ok-clause-inserted c =
     subst (λ (slots : List Slot). Inserts old (record now { slots = slots }) c.args.at c.args.index (shape c.args.tree.now)) (sym (written ∙ hung))
     (inserts old now (shape c.args.tree.now) c.in-Ok.child c.args.at c.args.index prev next c.in-Ok.ensures.built
     (subst (λ (slots : List Slot). (m : Node) → id_of m ≡ c.args.at → IsLinked (cells_of slots) m → c.args.index ≤ length (ids_of (children_of m))
-        → IsBetween prev next c.args.index (ids_of (children_of m))) c.as_slice.ensures.value c.place.ensures))
+    → IsBetween prev next c.args.index (ids_of (children_of m))) c.as_slice.ensures.value c.place.ensures))
 
 pub returns-in-Err-clause-kept : goal.returns-in-Err-clause-kept
 returns-in-Err-clause-kept c = λ root d.

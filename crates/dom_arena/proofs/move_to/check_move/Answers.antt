@@ -1,11 +1,11 @@
-use Rattle.std.proofs.Common.{Bool, None, [], Some, ap, false, is_none, is_some, le-ltb, lt-ltb, nat_lt, option_and_then, rules, sym, true, unwrap_or, ◌+◌, ◌<◌, ◌==◌, ◌||◌, ◌∙◌, ◌∷◌, ◌≡◌, ◌≤◌, arith}
-use Rattle.page_model.specs.Document.{Node, find, id_of, name_at}
+use Rattle.std.proofs.Common.{Bool, [], ap, false, is_none, is_some, le-ltb, lt-ltb, nat_lt, rules, slice_get, sym, true, unwrap_or, ◌+◌, ◌∙◌, ◌∷◌, ◌≡◌, arith}
+use Rattle.page_model.specs.Document.{Node, name_at}
 use Rattle.page_model.specs.Edits.{child_count, height_at, is_within, level, tree_after_remove}
 use Rattle.page_model.specs.Refusals.{first_of}
 use Rattle.page_model.specs.declared.cause.Cause.TheVariants.{DepthLimit}
 use Rattle.page_model.specs.declared.limits.TheConstants.{MAX_DEPTH}
 use Rattle.dom_arena.specs.Reading.{tree_in}
-use Rattle.dom_arena.specs.Slots.{content_at, name_in}
+use Rattle.dom_arena.specs.Inserting.{name_in_slot}
 use Rattle.dom_arena.specs.Stores.{Kept}
 use Rattle.dom_arena.specs.Views.{kept}
 use Rattle.dom_arena.proofs.MoveCauses.{tests-last, tests-past, tests-plain, tests-top, tests-within}
@@ -22,14 +22,14 @@ pub returns-then-not-is_element : goal.returns-then-not-is_element
 returns-then-not-is_element c =
     let k : Kept = kept c.args.store.now in
     let n : Node = tree_in k.slots c.args.root in
-    let element : is_some (option_and_then name_in (content_at k.slots c.args.parent)) ≡ false = search rules in
+    let element : is_some (name_in_slot (slice_get k.slots c.args.parent)) ≡ false = search rules in
     ((λ e. cc), tests-plain _ _ _ _ _ _ (both-there k c.args.root c.args.at c.args.parent c.requires.doc c.requires.node c.requires.parent) (not-top k c.args.root c.args.at c.requires.doc c.if-at-root.false) (is-plain k c.args.root c.args.parent c.requires.doc c.requires.parent element))
 
 pub returns-then-stands_within : goal.returns-then-stands_within
 returns-then-stands_within c =
     let k : Kept = kept c.args.store.now in
     let n : Node = tree_in k.slots c.args.root in
-    let element : is_some (option_and_then name_in (content_at k.slots c.args.parent)) ≡ true = search rules in
+    let element : is_some (name_in_slot (slice_get k.slots c.args.parent)) ≡ true = search rules in
     let plain : is_none (name_at c.args.parent n) ≡ false = not-plain k c.args.root c.args.parent c.requires.doc c.requires.parent element in
     let within : is_within c.args.at c.args.parent n ≡ true = sym (c.stands_within.ensures c.args.root c.requires.doc c.requires.node c.requires.parent c.if-at-root.false) ∙ c.if-stands_within.true in
     ((λ e. cc), tests-within _ _ _ _ _ _ (both-there k c.args.root c.args.at c.args.parent c.requires.doc c.requires.node c.requires.parent) (not-top k c.args.root c.args.at c.requires.doc c.if-at-root.false) plain within)
@@ -38,7 +38,7 @@ pub returns-then-index-children_without : goal.returns-then-index-children_witho
 returns-then-index-children_without c =
     let k : Kept = kept c.args.store.now in
     let n : Node = tree_in k.slots c.args.root in
-    let element : is_some (option_and_then name_in (content_at k.slots c.args.parent)) ≡ true = search rules in
+    let element : is_some (name_in_slot (slice_get k.slots c.args.parent)) ≡ true = search rules in
     let plain : is_none (name_at c.args.parent n) ≡ false = not-plain k c.args.root c.args.parent c.requires.doc c.requires.parent element in
     let within : is_within c.args.at c.args.parent n ≡ false = sym (c.stands_within.ensures c.args.root c.requires.doc c.requires.node c.requires.parent c.if-at-root.false) ∙ c.if-stands_within.false in
     let count : c.children_without.result ≡ child_count c.args.parent (tree_after_remove c.args.at n) =
@@ -51,7 +51,7 @@ pub returns-then-is_too_deep : goal.returns-then-is_too_deep
 returns-then-is_too_deep c =
     let k : Kept = kept c.args.store.now in
     let n : Node = tree_in k.slots c.args.root in
-    let element : is_some (option_and_then name_in (content_at k.slots c.args.parent)) ≡ true = search rules in
+    let element : is_some (name_in_slot (slice_get k.slots c.args.parent)) ≡ true = search rules in
     let plain : is_none (name_at c.args.parent n) ≡ false = not-plain k c.args.root c.args.parent c.requires.doc c.requires.parent element in
     let within : is_within c.args.at c.args.parent n ≡ false = sym (c.stands_within.ensures c.args.root c.requires.doc c.requires.node c.requires.parent c.if-at-root.false) ∙ c.if-stands_within.false in
     let count : c.children_without.result ≡ child_count c.args.parent (tree_after_remove c.args.at n) =
@@ -66,7 +66,7 @@ pub returns : goal.returns
 returns c =
     let k : Kept = kept c.args.store.now in
     let n : Node = tree_in k.slots c.args.root in
-    let element : is_some (option_and_then name_in (content_at k.slots c.args.parent)) ≡ true = search rules in
+    let element : is_some (name_in_slot (slice_get k.slots c.args.parent)) ≡ true = search rules in
     let plain : is_none (name_at c.args.parent n) ≡ false = not-plain k c.args.root c.args.parent c.requires.doc c.requires.parent element in
     let within : is_within c.args.at c.args.parent n ≡ false = sym (c.stands_within.ensures c.args.root c.requires.doc c.requires.node c.requires.parent c.if-at-root.false) ∙ c.if-stands_within.false in
     let count : c.children_without.result ≡ child_count c.args.parent (tree_after_remove c.args.at n) =

@@ -1,4 +1,4 @@
-use Rattle.std.proofs.Common.{ap, arith, false, rules, slice_get, sym, true, ◌-◌, ◌∙◌, ◌≡◌}
+use Rattle.std.proofs.Common.{ap, false, rules, slice_get, true, ◌-◌, ◌∙◌, ◌≡◌}
 use Rattle.dom_arena.specs.Moving.{leads_to}
 use Rattle.dom_arena.specs.Slots.{child_number, target, up_link}
 use Rattle.dom_arena.specs.Stores.{Kept}

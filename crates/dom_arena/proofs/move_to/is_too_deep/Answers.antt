@@ -1,4 +1,4 @@
-use Rattle.std.proofs.Common.{ap, min, nat_lt, rules, ◌-◌, ◌^◌, ◌∙◌, ◌≡◌}
+use Rattle.std.proofs.Common.{ap, min, nat_lt, ◌-◌, ◌^◌, ◌∙◌, ◌≡◌}
 use Rattle.page_model.specs.Document.{height}
 use Rattle.page_model.specs.declared.limits.TheConstants.{MAX_DEPTH, MAX_NODES}
 use Rattle.dom_arena.specs.Reading.{below}

@@ -1,7 +1,7 @@
 use Rattle.std.proofs.Common.{List, ap, rules, subst, sym, ◌∙◌, ◌≡◌}
 use Rattle.std.specs.Vec.{with_items}
 use Rattle.std.proofs.lemmas.List.{with_items_is}
-use Rattle.page_model.specs.Document.{children_of, id_of, ids_of}
+use Rattle.page_model.specs.Document.{children_of, ids_of}
 use Rattle.page_model.specs.Edits.{document_after_move}
 use Rattle.dom_arena.specs.Cells.{IsLinked}
 use Rattle.dom_arena.specs.Docs.{document_in}

@@ -1,4 +1,4 @@
-use Rattle.std.proofs.Common.{None, Some, arith, rules, slice_get, subst, sym, ℕ, ◌+◌, ◌≡◌, ◌≤◌}
+use Rattle.std.proofs.Common.{None, Some, arith, rules, slice_get, subst, sym, ℕ, ◌≡◌, ◌≤◌}
 use Rattle.page_model.specs.declared.limits.TheConstants.{MAX_DEPTH}
 use Rattle.dom_arena.specs.Slots.{target, up_link}
 use Rattle.dom_arena.specs.Stores.{Kept}

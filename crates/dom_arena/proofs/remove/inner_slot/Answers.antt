@@ -1,5 +1,4 @@
-use Rattle.std.proofs.Common.{◌≡◌, None, Some, sym, ◌∙◌, rules}
-use Rattle.page_model.specs.Document.{IsAmong}
+use Rattle.std.proofs.Common.{◌≡◌, None, Some, rules}
 use Rattle.dom_arena.specs.Slots.{table_at}
 use Rattle.dom_arena.specs.Views.{kept}
 use Rattle.dom_arena.proofs.Removed.{remove-none, remove-root, remove-inner}

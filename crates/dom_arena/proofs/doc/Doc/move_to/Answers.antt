@@ -1,9 +1,8 @@
-use Rattle.std.proofs.Common.{None, Option, Some, inr, rules, subst, sym, ap, ◌∙◌, ◌≡◌}
+use Rattle.std.proofs.Common.{None, Some, inr, rules, subst, ap, ◌∙◌, ◌≡◌}
 use Rattle.page_model.specs.Edits.{move_causes}
 use Rattle.page_model.specs.Refusals.{first_of}
-use Rattle.page_model.specs.declared.cause.Cause.{Cause}
 use Rattle.page_model.specs.declared.cause.Cause.TheVariants as cause
-use Rattle.dom_arena.specs.Docs.{Seen, document_in}
+use Rattle.dom_arena.specs.Docs.{Seen}
 use Rattle.dom_arena.specs.Faults.{cause_in}
 use Rattle.dom_arena.specs.Moving.{slot_document}
 use Rattle.dom_arena.specs.Slots.{table_at}
