@@ -18,6 +18,8 @@ pub mod Measures
 pub mod Shapes
 pub mod Changed
 pub mod ChangedLimits
+pub mod Answered
+pub mod NodeAt
 pub mod ContentEdits
 pub mod TextOrder
 pub mod AttributeSpots

@@ -62,7 +62,8 @@ impl Attrs {
 
     /// Gives the attribute `name` this value, in place of one that is there.
     pub fn set(&mut self, alloc: Global, name: &str, value: &str) -> Result<(), NoMemory>
-        ensures set { OnOk result (self.new ≡ with_attribute (chars name.now) (chars value.now) self.old) }
+        ensures set { OnOk result (self.new
+            ≡ with_attribute (chars name.now) (chars value.now) self.old) }
         ensures kept { OnErr result (self.new ≡ self.old) }
     {
         let name_text = Text::new(alloc, name)?;
