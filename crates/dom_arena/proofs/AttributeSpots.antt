@@ -1,9 +1,9 @@
 -- The attributes with and without the one at a spot.
-use Rattle.std.proofs.Common.{Bool, Greater, Less, Equal, List, [], ap, arith, cond, drop, eq-eqb, false, inl, inr, length, refl, slice_index_or, subst, suc, sym, take, true, zero, ℕ, ◌++◌, ◌+◌, ◌<◌, ◌∙◌, ◌∷◌, ◌≡◌, ◌≤◌}
+use Rattle.std.proofs.Common.{List, [], ap, arith, drop, eq-eqb, false, inl, inr, length, refl, subst, suc, sym, take, true, zero, ℕ, ◌++◌, ◌+◌, ◌∙◌, ◌∷◌, ◌≡◌, ◌≤◌}
 use Rattle.std.proofs.lemmas.Bool.{cases_Bool, false≢true}
 use Rattle.std.specs.Prelude.{Result, Ok, Err, OnOk, OnErr}
-use Rattle.dom_arena.proofs.Lists.{drop-next, length-slice_set}
-use Rattle.dom_arena.specs.Spots.{IsWithin, attributes_with, attributes_without, behind, count_with, length_at, order_of, spot_of}
+use Rattle.dom_arena.proofs.Lists.{length-slice_set}
+use Rattle.dom_arena.specs.Spots.{IsWithin, attributes_with, attributes_without, behind, count_with, length_at, spot_of}
 use Rattle.dom_arena.specs.declared.spots.Spot.{Spot}
 use Rattle.dom_arena.specs.declared.spots.Spot.TheVariants.{At, Before}
 use Rattle.page_laws.proofs.AttributesInOrder.{leads, less-then-less, order-tail, order-with, other-text, same-text}
@@ -131,33 +131,6 @@ spot-length xs s = let left = size-left xs s in omega (arith, left)
 
 pub spot-size-without : (name : Text) (xs : List Attribute) → are_in_order xs ≡ true → value_size (without_attribute name xs) + length_at (spot_of name xs) xs ≡ value_size xs
 spot-size-without name xs o = rw (← spot-without name xs o) (size-left xs (spot_of name xs))
-
--- ---- the search
-
--- the attribute there has the name, or it is the first that is greater, or it is less
-pub search-same : (name : Text) (xs : List Attribute) (i : ℕ) (a : Attribute) → i < length xs → a ≡ slice_index_or xs i a → order_of name a.0 ≡ Equal → spot_of name (drop i xs) ≡ At 0
-search-same name xs i a w e h = ap (spot_of name) (drop-next xs i a w e) ∙ by-test (is_same_text name a.0) (is_less_text name a.0) h
-  where
-    by-test : (b l : Bool) → cond b Equal (cond l Less Greater) ≡ Equal → cond b (At 0) (cond l (Before 0) (behind 1 (spot_of name (drop (suc i) xs)))) ≡ At 0
-    by-test true l q = refl
-    by-test false true q = absurd (cc q)
-    by-test false false q = absurd (cc q)
-
-pub search-less : (name : Text) (xs : List Attribute) (i : ℕ) (a : Attribute) → i < length xs → a ≡ slice_index_or xs i a → order_of name a.0 ≡ Less → spot_of name (drop i xs) ≡ Before 0
-search-less name xs i a w e h = ap (spot_of name) (drop-next xs i a w e) ∙ by-test (is_same_text name a.0) (is_less_text name a.0) h
-  where
-    by-test : (b l : Bool) → cond b Equal (cond l Less Greater) ≡ Less → cond b (At 0) (cond l (Before 0) (behind 1 (spot_of name (drop (suc i) xs)))) ≡ Before 0
-    by-test true l q = absurd (cc q)
-    by-test false true q = refl
-    by-test false false q = absurd (cc q)
-
-pub search-more : (name : Text) (xs : List Attribute) (i : ℕ) (a : Attribute) → i < length xs → a ≡ slice_index_or xs i a → order_of name a.0 ≡ Greater → spot_of name (drop i xs) ≡ behind 1 (spot_of name (drop (suc i) xs))
-search-more name xs i a w e h = ap (spot_of name) (drop-next xs i a w e) ∙ by-test (is_same_text name a.0) (is_less_text name a.0) h
-  where
-    by-test : (b l : Bool) → cond b Equal (cond l Less Greater) ≡ Greater → cond b (At 0) (cond l (Before 0) (behind 1 (spot_of name (drop (suc i) xs)))) ≡ behind 1 (spot_of name (drop (suc i) xs))
-    by-test true l q = absurd (cc q)
-    by-test false true q = absurd (cc q)
-    by-test false false q = refl
 
 -- ---- what a call that sets an attribute leaves
 

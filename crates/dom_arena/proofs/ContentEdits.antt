@@ -1,26 +1,25 @@
 -- The document after an edit of a node's own content, and the causes of its refusal, by slots.
-use Rattle.std.proofs.Common.{Bool, IsSome, List, None, Option, Some, [], ap, arith, eq-eqb, false, inl, inr, is_none, is_some, length, ltb-false, nat_lt, not, option_and_then, option_map, refl, slice_get, subst, sym, true, ℕ, ◌+◌, ◌||◌, ◌∙◌, ◌∷◌, ◌≡◌, ◌≤◌, ◌⊎◌}
+use Rattle.std.proofs.Common.{Bool, IsSome, List, None, Option, Some, [], ap, arith, eq-eqb, false, inl, inr, is_none, is_some, length, ltb-false, nat_lt, not, refl, subst, sym, true, ℕ, ◌+◌, ◌||◌, ◌∙◌, ◌∷◌, ◌≡◌, ◌≤◌}
 use Rattle.std.proofs.lemmas.Bool.{false≢true}
 use Rattle.std.proofs.lemmas.Option.{none-some, same_Some}
 use Rattle.page_laws.proofs.Find.{find-id}
-use Rattle.page_laws.proofs.Options.{none-or-some, or-false}
+use Rattle.page_laws.proofs.Options.{or-false}
 use Rattle.page_laws.proofs.TreeAfterChange.{attributes_at-found}
 use Rattle.page_laws.specs.Limits.{own_text_size}
 use Rattle.page_model.specs.Attributes.{are_in_order, with_attribute, without_attribute}
 use Rattle.page_model.specs.Names.{is_name}
-use Rattle.page_model.specs.Document.{Document, Node, attributes_at, attributes_of, by_itself, element, find, id_of, name_at, name_of, no_nodes, text, without_ids}
+use Rattle.page_model.specs.Document.{Node, attributes_at, attributes_of, by_itself, element, find, id_of, name_at, name_of, no_nodes, text, without_ids}
 use Rattle.page_model.specs.Edits.{document_after_drop_attr, document_after_set_attr, document_after_set_text, drop_attr_causes, is_over_text_limit, set_attr_causes, set_text_causes, tree_after_change, tree_after_set_attr, tree_after_set_text}
 use Rattle.page_model.specs.Refusals.{Causes, first_of}
 use Rattle.page_model.specs.Trees.{Attribute, Text, is_long, text_size, value_size}
-use Rattle.page_model.specs.declared.cause.Cause.{Cause}
 use Rattle.page_model.specs.declared.cause.Cause.TheVariants.{NoNode, NotElement, NotText, BadName, TextLimit, AttrLimit}
 use Rattle.page_model.specs.declared.limits.TheConstants.{MAX_ATTRIBUTES, MAX_TEXTS}
 use Rattle.dom_arena.proofs.Changed.{Edited, doc-edited, points-edited, smaller-edited}
+use Rattle.dom_arena.proofs.Answered.{answered, cause-same, is-none, named-by, none-holds, none-same, ok-both}
+use Rattle.dom_arena.proofs.NodeAt.{IsAt, at-or-absent, name-at}
 use Rattle.dom_arena.proofs.AttributeSpots.{spot-count, spot-length, spot-size, spot-size-without}
 use Rattle.dom_arena.proofs.ChangedLimits.{dropped-grammar, set-grammar, text-grammar}
-use Rattle.dom_arena.proofs.Docs.{doc-facts, find-by-table, read-attributes, read-live, read-name, slot-node}
-use Rattle.dom_arena.proofs.Renamed.{name_of-renamed}
-use Rattle.dom_arena.proofs.Releases.{slot-of-body}
+use Rattle.dom_arena.proofs.Docs.{doc-facts, read-attributes, read-live, read-name}
 use Rattle.dom_arena.proofs.Written.{body-parts}
 use Rattle.dom_arena.specs.Cells.{body_of}
 use Rattle.dom_arena.specs.Contents.{attr_causes, drop_causes, kept_after, kept_changed, name_in_slot, others_of, size_with, size_without, text_causes, total_with, with_attributes}
@@ -28,100 +27,14 @@ use Rattle.dom_arena.specs.Docs.{IsDoc, document_in}
 use Rattle.dom_arena.specs.Faults.{AnswersBy}
 use Rattle.dom_arena.specs.Reading.{tree_in}
 use Rattle.dom_arena.specs.Rename.{rename}
-use Rattle.dom_arena.specs.Slots.{attributes_in, attributes_in_slot, body_in, id_at, own_in, table_at}
+use Rattle.dom_arena.specs.Slots.{attributes_in, attributes_in_slot, id_at, own_in, table_at}
 use Rattle.dom_arena.specs.Spots.{count_with, spot_of}
 use Rattle.dom_arena.specs.Stores.{Kept, slot_by_id}
 use Rattle.dom_arena.specs.declared.fault.DocFault.{DocFault}
 use Rattle.dom_arena.specs.declared.slot.Content.{Content}
 use Rattle.dom_arena.specs.declared.slot.Content.TheVariants.{Chars, Element, Free}
 use Rattle.dom_arena.specs.declared.slot.Slot.{Slot}
-use Rattle.std.specs.Prelude.{Result, Ok, Err, OnOk, OnErr}
-
--- ---- causes
-
-pub answers-same : {X : Type 0} (cs cs' : Causes) (r : Result X DocFault) → first_of cs ≡ first_of cs' → AnswersBy cs r → AnswersBy cs' r
-answers-same cs cs' (Ok x) e h = sym e ∙ h
-answers-same cs cs' (Err fault) e (inl h) = inl h
-answers-same cs cs' (Err fault) e (inr h) = inr (sym e ∙ h)
-
--- what a call leaves and answers, where its causes by the slot are those by the document
-pub answered : {X : Type 0} (k k' after : Kept) (x : ℕ) (d' : Document) (cs cs' : Causes) (r : Result X DocFault) → IsDoc k x → first_of cs ≡ first_of cs'
-    → (first_of cs' ≡ None → k' ≡ after → (document_in k' x ≡ d') × IsDoc k' x) → OnOk r (k' ≡ after) → AnswersBy cs r → OnErr r (k' ≡ k)
-    → IsDoc k' x × OnOk r (document_in k' x ≡ d') × AnswersBy cs' r
-answered k k' after x d' cs cs' (Ok u) d e done set causes same = let is = done (sym e ∙ causes) set in (is.1, is.0, sym e ∙ causes)
-answered {X} k k' after x d' cs cs' (Err fault) d e done set causes same =
-    (subst (λ (q : Kept). IsDoc q x) (sym same) d, set, answers-same {X = X} cs cs' (Err fault) e causes)
-
--- a cause that holds in both lists or in neither, before others
-cause-same : (b b' : Bool) (r : Cause) (rest rest' : Causes) → b ≡ b' → (b' ≡ false → first_of rest ≡ first_of rest') → first_of ((b, r) ∷ rest) ≡ first_of ((b', r) ∷ rest')
-cause-same b true r rest rest' e h = rw e refl
-cause-same b false r rest rest' e h = rw e (h refl)
-
--- no cause holds
-none-holds : (b : Bool) (r : Cause) (rest : Causes) → first_of ((b, r) ∷ rest) ≡ None → (b ≡ false) × (first_of rest ≡ None)
-none-holds true r rest h = absurd (none-some r (sym h))
-none-holds false r rest h = (refl, h)
-
-is-some : {X : Type 0} (o : Option X) → is_none o ≡ false → (x : X) × (o ≡ Some x)
-is-some None h = absurd (false≢true (sym h))
-is-some (Some x) h = (x, refl)
-
-none-same : {X Y : Type 0} (o : Option X) (p : Option Y) → is_some o ≡ is_some p → is_none o ≡ is_none p
-none-same None None h = refl
-none-same (Some x) (Some y) h = refl
-none-same None (Some y) h = absurd (false≢true h)
-none-same (Some x) None h = absurd (false≢true (sym h))
-
-is-none : {X : Type 0} (o : Option X) → is_some o ≡ false → o ≡ None
-is-none None h = refl
-is-none (Some x) h = absurd (false≢true (sym h))
-
--- ---- the node with an id
-
--- the id is that of a node: the node, its slot, and the slot's place
-pub record IsAt (k : Kept) (x i : ℕ) : Type 0 where
-  pub y : ℕ
-  pub m : Node
-  pub s : Slot
-  pub at : table_at k.table i ≡ Some y
-  pub found : find y (tree_in k.slots x) ≡ Some m
-  pub slot : slice_get k.slots y ≡ Some s
-  pub body : body_in y s ≡ Some (body_of m)
-  pub by_id : slot_by_id k i ≡ Some s
-  pub node : find i (document_in k x).root ≡ Some (rename (id_at k.slots) m)
-
-node-at : (k : Kept) (x i : ℕ) → IsDoc k x → (y : ℕ) → table_at k.table i ≡ Some y → IsAt k x i
-node-at k x i d y e =
-    let m = slot-node k x (tree_in k.slots x) y d.tree (d.tree.store.found i y e).0 in
-    let s = slot-of-body k.slots y (body_of m.0) m.1.1 in
-    record {
-      y = y;
-      m = m.0;
-      s = s.0;
-      at = e;
-      found = m.1.0;
-      slot = s.1;
-      body = s.2;
-      by_id = ap (option_and_then (slice_get k.slots)) e ∙ s.1;
-      node = find-by-table k x (tree_in k.slots x) i d.tree
-          ∙ (ap (λ o. option_map (rename (id_at k.slots)) (option_and_then (λ (z : ℕ). find z (tree_in k.slots x)) o)) e ∙ ap (option_map (rename (id_at k.slots))) m.1.0);
-    }
-
--- the id is that of no node
-absent-at : (k : Kept) (x i : ℕ) → IsDoc k x → table_at k.table i ≡ None → (slot_by_id k i ≡ None) × (find i (document_in k x).root ≡ None)
-absent-at k x i d e = (
-  ap (option_and_then (slice_get k.slots)) e,
-  find-by-table k x (tree_in k.slots x) i d.tree ∙ ap (λ o. option_map (rename (id_at k.slots)) (option_and_then (λ (z : ℕ). find z (tree_in k.slots x)) o)) e,
-)
-
-pub at-or-absent : (k : Kept) (x i : ℕ) → IsDoc k x → IsAt k x i ⊎ ((slot_by_id k i ≡ None) × (find i (document_in k x).root ≡ None))
-at-or-absent k x i d = elim (none-or-some (table_at k.table i)) [
-  | inl none ↦ inr (absent-at k x i d none)
-  | inr some ↦ inl (node-at k x i d some.0 some.1)
-]
-
-name-at : (k : Kept) (x i : ℕ) → IsDoc k x → (p : IsAt k x i) → name_at i (document_in k x).root ≡ name_of p.m
-name-at k x i d p = ap (option_and_then name_of) p.node ∙ name_of-renamed (id_at k.slots) p.m
+use Rattle.std.specs.Prelude.{Result, OnOk, OnErr}
 
 -- ---- texts
 
@@ -187,7 +100,7 @@ pub text-answered : {X : Type 0} (k k' : Kept) (x i : ℕ) (cs : Text) (r : Resu
     → OnOk r (k' ≡ kept_after k (table_at k.table i) (λ _. Chars cs) (length cs)) → AnswersBy (text_causes (slot_by_id k i) k.code_points cs) r → OnErr r (k' ≡ k)
     → IsDoc k' x × OnOk r (document_in k' x ≡ document_after_set_text i cs (document_in k x)) × AnswersBy (set_text_causes i cs (document_in k x)) r
 text-answered k k' x i cs r d set causes same =
-    answered k k' (kept_after k (table_at k.table i) (λ _. Chars cs) (length cs)) x (document_after_set_text i cs (document_in k x)) (text_causes (slot_by_id k i) k.code_points cs) (set_text_causes i cs (document_in k x)) r d
+    answered (k' ≡ kept_after k (table_at k.table i) (λ _. Chars cs) (length cs)) k k' x (document_after_set_text i cs (document_in k x)) (text_causes (slot_by_id k i) k.code_points cs) (set_text_causes i cs (document_in k x)) r d
     (text-causes k x i cs d) (λ none is. text-set k k' x i cs d none is) set causes same
 
 -- ---- attributes
@@ -240,10 +153,6 @@ attributes-edited k x i g points d p named size =
       size = size ∙ (ap (λ xs. value_size (g xs)) (attributes-at k x i d p) ∙ sym (attributes-size p.y g p.m number some));
     }
 
-some-name : {X : Type 0} (o : Option X) → is_none o ≡ false → IsSome o
-some-name None h = absurd (false≢true (sym h))
-some-name (Some x) h = refl
-
 -- ---- an attribute is dropped
 
 size-dropped : (k : Kept) (x i : ℕ) (name : Text) (d : IsDoc k x) (p : IsAt k x i) → IsSome (name_at i (document_in k x).root) → are_in_order (attributes_in p.s.content) ≡ true
@@ -268,7 +177,7 @@ attr-dropped k k' x i name d order none same = elim (at-or-absent k x i d) [
       let r : Node = (document_in k x).root in
       let one = none-holds (is_none (find i r)) NoNode ((is_none (name_at i r), NotElement) ∷ []) none in
       let two = none-holds (is_none (name_at i r)) NotElement [] one.1 in
-      let named : IsSome (name_at i r) = some-name (name_at i r) two.0 in
+      let named : IsSome (name_at i r) = named-by (name_at i r) two.0 in
       let points : ℕ = size_without (slot_by_id k i) name in
       let size : points ≡ value_size (without_attribute name (attributes_in p.s.content)) =
       ap (λ o. size_without o name) p.by_id ∙ size-dropped k x i name d p named (ap (λ o. are_in_order (attributes_in_slot o)) (sym p.by_id) ∙ order) in
@@ -284,12 +193,11 @@ pub drop-answered : {X : Type 0} (k k' : Kept) (x i : ℕ) (name : Text) (r : Re
     → OnOk r (k' ≡ kept_after k (table_at k.table i) (with_attributes (without_attribute name)) (size_without (slot_by_id k i) name)) → OnOk r (are_in_order (attributes_in_slot (slot_by_id k i)) ≡ true)
     → AnswersBy (drop_causes (slot_by_id k i)) r → OnErr r (k' ≡ k)
     → IsDoc k' x × OnOk r (document_in k' x ≡ document_after_drop_attr i name (document_in k x)) × AnswersBy (drop_attr_causes i (document_in k x)) r
-drop-answered k k' x i name (Ok u) d set order causes same =
-    let none = sym (drop-causes k x i d) ∙ causes in
-    let is = attr-dropped k k' x i name d order none set in
-    (is.1, is.0, none)
-drop-answered {X} k k' x i name (Err fault) d set order causes same =
-    (subst (λ (q : Kept). IsDoc q x) (sym same) d, set, answers-same {X = X} (drop_causes (slot_by_id k i)) (drop_attr_causes i (document_in k x)) (Err fault) (drop-causes k x i d) causes)
+drop-answered k k' x i name r d set order causes same =
+    let After : Type 0 = k' ≡ kept_after k (table_at k.table i) (with_attributes (without_attribute name)) (size_without (slot_by_id k i) name) in
+    let Ordered : Type 0 = are_in_order (attributes_in_slot (slot_by_id k i)) ≡ true in
+    answered (After × Ordered) k k' x (document_after_drop_attr i name (document_in k x)) (drop_causes (slot_by_id k i)) (drop_attr_causes i (document_in k x)) r d (drop-causes k x i d)
+    (λ none did. attr-dropped k k' x i name d did.1 none did.0) (ok-both After Ordered r set order) causes same
 
 -- ---- an attribute is set
 
@@ -331,7 +239,7 @@ attr-causes k x i name value d = elim (at-or-absent k x i d) [
       cause-same (is_none o) (is_none (find i r)) NoNode ((is_none (name_in_slot o), NotElement) ∷ value_causes name value points count) ((is_none (name_at i r), NotElement) ∷ value_causes name value points' count')
       (ap is_none p.by_id ∙ sym (ap is_none p.node)) (λ _.
       cause-same (is_none (name_in_slot o)) (is_none (name_at i r)) NotElement (value_causes name value points count) (value_causes name value points' count') (ap is_none (read-name k x i d)) (λ h.
-      let same_points : points ≡ points' = points-set k x i name value d p (some-name (name_at i r) h) in
+      let same_points : points ≡ points' = points-set k x i name value d p (named-by (name_at i r) h) in
       λ j. first_of (value_causes name value (same_points j) (same_count j))))
 ]
 
@@ -353,7 +261,7 @@ attr-set k k' x i name value d none same = elim (at-or-absent k x i d) [
       let four = none-holds (is_long value || nat_lt MAX_TEXTS after) TextLimit ((nat_lt MAX_ATTRIBUTES count, AttrLimit) ∷ []) three.1 in
       let five = none-holds (nat_lt MAX_ATTRIBUTES count) AttrLimit [] four.1 in
       let parts = or-false (is_long value) (nat_lt MAX_TEXTS after) four.0 in
-      let named : IsSome (name_at i r) = some-name (name_at i r) two.0 in
+      let named : IsSome (name_at i r) = named-by (name_at i r) two.0 in
       let points : ℕ = size_with (slot_by_id k i) name value in
       let size : points ≡ value_size (with_attribute name value (attributes_in p.s.content)) = ap (λ o. size_with o name value) p.by_id ∙ size-set k x i name value d p named in
       let e = attributes-edited k x i (with_attribute name value) points d p named size in
@@ -370,5 +278,5 @@ pub set-answered : {X : Type 0} (k k' : Kept) (x i : ℕ) (name value : Text) (r
     → OnOk r (k' ≡ kept_after k (table_at k.table i) (with_attributes (with_attribute name value)) (size_with (slot_by_id k i) name value)) → AnswersBy (attr_causes (slot_by_id k i) k.code_points name value) r → OnErr r (k' ≡ k)
     → IsDoc k' x × OnOk r (document_in k' x ≡ document_after_set_attr i name value (document_in k x)) × AnswersBy (set_attr_causes i name value (document_in k x)) r
 set-answered k k' x i name value r d set causes same =
-    answered k k' (kept_after k (table_at k.table i) (with_attributes (with_attribute name value)) (size_with (slot_by_id k i) name value)) x (document_after_set_attr i name value (document_in k x))
+    answered (k' ≡ kept_after k (table_at k.table i) (with_attributes (with_attribute name value)) (size_with (slot_by_id k i) name value)) k k' x (document_after_set_attr i name value (document_in k x))
     (attr_causes (slot_by_id k i) k.code_points name value) (set_attr_causes i name value (document_in k x)) r d (attr-causes k x i name value d) (λ none is. attr-set k k' x i name value d none is) set causes same

@@ -24,6 +24,8 @@ pub mod Deepest
 pub mod Inserts
 pub mod Changed
 pub mod ChangedLimits
+pub mod Answered
+pub mod NodeAt
 pub mod ContentEdits
 pub mod TextOrder
 pub mod AttributeSpots

@@ -112,8 +112,9 @@ fn replace(store: &mut Store, id: NodeId, content: Content, size: u32)
 
 /// Gives the text `id` these code points.
 pub fn set_text(store: &mut Store, alloc: Global, id: NodeId, text: &str) -> Result<(), DocFault>
-    ensures set { OnOk result (kept store.new ≡ kept_after (kept store.old)
-        (table_at store.old.table.items id) (λ _. characters (chars text.now)) (length (chars text.now))) }
+    ensures set { OnOk result (kept store.new
+        ≡ kept_after (kept store.old) (table_at store.old.table.items id)
+        (λ _. characters (chars text.now)) (length (chars text.now))) }
     ensures causes { AnswersBy (text_causes (slot_by_id (kept store.old) id) store.old.code_points
         (chars text.now)) result }
     ensures kept { OnErr result (kept store.new ≡ kept store.old) }

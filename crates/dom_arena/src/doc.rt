@@ -221,8 +221,8 @@ impl Doc {
         contents::set_text(&mut self.store, self.alloc, id, text)
     }
 
-    /// Takes the attribute `name` from the element `id`, if it is there; takes no memory. (DOM section 4.9,
-    /// removeAttribute)
+    /// Takes the attribute `name` from the element `id`, if it is there; takes no memory.
+    /// (DOM section 4.9, removeAttribute)
     pub fn drop_attr(&mut self, id: NodeId, name: &str) -> Result<(), DocFault>
         ensures dropped { OnOk result (self.new.document
             ≡ document_after_drop_attr id (chars name.now) self.old.document) }
@@ -233,8 +233,8 @@ impl Doc {
         elements::drop_attr(&mut self.store, id, name)
     }
 
-    /// Gives the element `id` the attribute `name` with this value, in place of one that is there. (DOM
-    /// section 4.9, setAttribute)
+    /// Gives the element `id` the attribute `name` with this value, in place of one that is there.
+    /// (DOM section 4.9, setAttribute)
     pub fn set_attr(&mut self, id: NodeId, name: &str, value: &str) -> Result<(), DocFault>
         ensures set { OnOk result (self.new.document
             ≡ document_after_set_attr id (chars name.now) (chars value.now) self.old.document) }

@@ -103,8 +103,9 @@ fn set_at(
     name: &str,
     value: &str,
 ) -> Result<(), NoMemory>
-    ensures set { OnOk result (slots.new ≡ changed at
-        (with_content (with_attributes (with_attribute (chars name.now) (chars value.now))) size) slots.old) }
+    ensures set { OnOk result (slots.new
+        ≡ changed at (with_content (with_attributes
+        (with_attribute (chars name.now) (chars value.now))) size) slots.old) }
     ensures kept { OnErr result (slots.new ≡ slots.old) }
 {
     let at = at as usize;
@@ -119,7 +120,8 @@ fn set_at(
 /// Takes the attribute from the element in the slot `at`, which has `size` code points without it.
 fn drop_at(slots: &mut [Slot], at: u32, size: u32, name: &str)
     ensures { slots.new
-        ≡ changed at (with_content (with_attributes (without_attribute (chars name.now))) size) slots.old }
+        ≡ changed at (with_content (with_attributes
+        (without_attribute (chars name.now))) size) slots.old }
 {
     let at = at as usize;
     if at < slots.len() {
@@ -194,7 +196,8 @@ pub fn drop_attr(store: &mut Store, id: NodeId, name: &str) -> Result<(), DocFau
         ≡ kept_after (kept store.old) (table_at store.old.table.items id)
         (with_attributes (without_attribute (chars name.now)))
         (size_without (slot_by_id (kept store.old) id) (chars name.now))) }
-    ensures order { OnOk result (are_in_order (attributes_in_slot (slot_by_id (kept store.old) id)) ≡ true) }
+    ensures order { OnOk result
+        (are_in_order (attributes_in_slot (slot_by_id (kept store.old) id)) ≡ true) }
     ensures causes { AnswersBy (drop_causes (slot_by_id (kept store.old) id)) result }
     ensures without_memory { IfErr result (λ e. e ≢ DocFault.NoMemory) }
     ensures kept { OnErr result (kept store.new ≡ kept store.old) }

@@ -118,7 +118,8 @@ pub fn put(
     attribute: Attribute,
 ) -> Result<(), NoMemory>
     requires { IsWithin spot (length attributes.old.items) }
-    ensures put { OnOk result (attributes.new.items ≡ attributes_with spot attribute attributes.old.items) }
+    ensures put { OnOk result (attributes.new.items
+        ≡ attributes_with spot attribute attributes.old.items) }
     ensures kept { OnErr result (attributes.new.items ≡ attributes.old.items) }
 {
     match spot {
