@@ -35,3 +35,4 @@ pub mod Within
 pub mod MoveCauses
 pub mod MovedTree
 pub mod MoveTests
+pub mod ChildLists

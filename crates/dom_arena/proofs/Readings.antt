@@ -41,7 +41,7 @@ place-child c root j p d h up =
 
 -- ---- the tree
 
-siblings-chain : (place : ℕ → Option Place) (up many : ℕ) (last : Option ℕ) (xs : List ℕ) → AreChained place up last xs None → length xs ≤ many → siblings place many (first xs) ≡ xs
+pub siblings-chain : (place : ℕ → Option Place) (up many : ℕ) (last : Option ℕ) (xs : List ℕ) → AreChained place up last xs None → length xs ≤ many → siblings place many (first xs) ≡ xs
 siblings-chain place up zero last [] h l = refl
 siblings-chain place up (suc k) last [] h l = refl
 siblings-chain place up zero last (x ∷ xs) h l = absurd (omega (arith, l))

@@ -1,6 +1,6 @@
 //! The document (DOM sections 1.1 and 4.2.3).
 ghost use Rattle.std.specs.Prelude.{◌≡◌, ◌≢◌, ◌≤◌, true, IfOk, IfErr, OnOk, OnErr, is_some, encode_utf8_all, option_map};
-ghost use Rattle.page_model.specs.Document.{document, id_of, find, parent_of, first_child_of, next_of, prev_of, name_at, text_at, value_at};
+ghost use Rattle.page_model.specs.Document.{Node, document, child_ids, children_of, id_of, find, parent_of, first_child_of, next_of, prev_of, name_at, text_at, value_at};
 ghost use Rattle.page_model.specs.Edits.{document_after_drop_attr, document_after_set_attr, document_after_set_text, drop_attr_causes, set_attr_causes, set_text_causes};
 ghost use Rattle.std.specs.Str.{chars};
 ghost use Rattle.page_model.specs.declared.limits.TheConstants.{MAX_NODES};
@@ -9,9 +9,11 @@ ghost use Rattle.page_model.specs.Trees.{is_elem};
 ghost use Rattle.page_laws.specs.Limits.{KeepsLimits};
 ghost use Rattle.dom_arena.specs.Docs.{IsDocument};
 ghost use Rattle.dom_arena.specs.Faults.{AnswersBy};
+ghost use Rattle.dom_arena.specs.Found.{AreFound};
 ghost use Rattle.dom_arena.specs.Shape.{shape};
 
 use crate::build::build;
+use crate::children::Children;
 use crate::copies::copy_store;
 use crate::fault::DocFault;
 use crate::insert::{insert_slot, insert_tree};
@@ -126,6 +128,17 @@ impl Doc {
         ensures { result ≡ first_child_of id self.now.document.root }
     {
         self.store.id_behind(reading::first(self.store.slot(id)))
+    }
+
+    /// Returns the ids of the children of the node `id`, in order. A text has none.
+    pub fn children(&self, id: NodeId) -> Children<'_>
+        ensures children { result ≡ child_ids id self.now.document.root }
+        ensures found { (n : Node) → find id self.now.document.root ≡ Some n
+            → AreFound self.now.document.root (children_of n) }
+    {
+        let slots = self.store.slots.as_slice();
+        let at = self.store.slot(id);
+        Children::from(slots, reading::first(at), reading::count(at))
     }
 
     /// Returns the element that has the node `id` among its children.

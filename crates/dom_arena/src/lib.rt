@@ -3,6 +3,7 @@
 
 mod attrs;
 mod build;
+mod children;
 mod contents;
 mod copies;
 mod counts;
@@ -28,6 +29,7 @@ mod store;
 mod tree;
 
 pub use attrs::{Attribute, Attrs};
+pub use children::Children;
 pub use doc::Doc;
 pub use fault::DocFault;
 pub use tree::Tree;

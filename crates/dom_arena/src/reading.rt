@@ -4,7 +4,7 @@ ghost use Rattle.std.specs.Option.{option_copied};
 ghost use Rattle.std.specs.Str.{chars};
 ghost use Rattle.page_model.specs.Attributes.{value_of};
 ghost use Rattle.dom_arena.specs.declared.slot.Slot.{Slot as slot};
-ghost use Rattle.dom_arena.specs.Slots.{name_in, text_in, attributes_in_slot, first_link, up_link, next_link, prev_link};
+ghost use Rattle.dom_arena.specs.Slots.{child_number, name_in, text_in, attributes_in_slot, first_link, up_link, next_link, prev_link};
 
 use crate::link::Link;
 use crate::slot::{Content, Slot};
@@ -49,6 +49,16 @@ pub fn first(at: Option<&Slot>) -> Link
     match at {
         Some(slot) => slot.first,
         None => Link::none(),
+    }
+}
+
+/// Returns the number of children.
+pub fn count(at: Option<&Slot>) -> u32
+    ensures { result ≡ child_number (option_copied at.entry) }
+{
+    match at {
+        Some(slot) => slot.children,
+        None => 0,
     }
 }
 
