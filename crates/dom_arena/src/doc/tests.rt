@@ -12,6 +12,7 @@ use std::process::Abort;
 use std::test::Fail;
 
 /// An edit, where `Insert` puts in the tree that a test hands along.
+#[derive(Clone, Copy)]
 enum Step {
     Insert(NodeId, usize),
     Remove(NodeId),
@@ -24,11 +25,7 @@ enum Step {
 fn element(alloc: Global, name: &str, children: Seq<Tree>) -> Result<Tree, NoMemory>
     ensures { IfOk result (λ t. is_elem (shape t) ≡ true) }
 {
-    Ok(Tree::Elem(
-        Text::new(alloc, name)?,
-        Attrs::new(alloc),
-        children,
-    ))
+    Ok(Tree::Elem(Text::new(alloc, name)?, Attrs::new(alloc), children))
 }
 
 fn text(alloc: Global, content: &str) -> Result<Tree, NoMemory> {
@@ -131,8 +128,8 @@ fn spell(doc: &Doc, alloc: Global) -> Result<String, NoMemory> {
     Ok(spelled)
 }
 
-fn take(doc: &mut Doc, tree: &Tree, step: &Step) -> Result<(), DocFault> {
-    match *step {
+fn take(doc: &mut Doc, tree: &Tree, step: Step) -> Result<(), DocFault> {
+    match step {
         Step::Insert(parent, index) => {
             doc.insert(parent, index, tree)?;
             Ok(())
@@ -146,23 +143,23 @@ fn take(doc: &mut Doc, tree: &Tree, step: &Step) -> Result<(), DocFault> {
 }
 
 /// Asserts what a page is after a step.
-fn expect(rt: &HostRuntime, steps: &[Step], want: &str) -> Result<(), Fail> {
-    let mut doc = Doc::new(rt.alloc(), &page(rt.alloc())?)?;
-    let tree = chain(rt.alloc(), 2)?;
+fn expect(rt: &impl Abort, alloc: Global, steps: &[Step], want: &str) -> Result<(), Fail> {
+    let mut doc = Doc::new(alloc, &page(alloc)?)?;
+    let tree = chain(alloc, 2)?;
     for step in steps {
-        take(&mut doc, &tree, step)?;
+        take(&mut doc, &tree, *step)?;
     }
-    assert_eq!(rt; spell(&doc, rt.alloc())?.as_str(), want);
+    assert_eq!(rt; spell(&doc, alloc)?.as_str(), want);
     Ok(())
 }
 
 /// Asserts that a page refuses a step, and that nothing has changed then.
-fn refuse(rt: &HostRuntime, step: Step, fault: DocFault) -> Result<(), Fail> {
-    let mut doc = Doc::new(rt.alloc(), &page(rt.alloc())?)?;
-    let tree = chain(rt.alloc(), 2)?;
-    assert_eq!(rt; take(&mut doc, &tree, &step), Err(fault));
+fn refuse(rt: &impl Abort, alloc: Global, step: Step, fault: DocFault) -> Result<(), Fail> {
+    let mut doc = Doc::new(alloc, &page(alloc)?)?;
+    let tree = chain(alloc, 2)?;
+    assert_eq!(rt; take(&mut doc, &tree, step), Err(fault));
     let same = "0(1 6) 1(2 5) 2(3 4) 3'x' 4'y' 5() 6'z'";
-    assert_eq!(rt; spell(&doc, rt.alloc())?.as_str(), same);
+    assert_eq!(rt; spell(&doc, alloc)?.as_str(), same);
     Ok(())
 }
 
@@ -201,63 +198,133 @@ fn siblings(rt: HostRuntime) -> Result<(), Fail> {
 #[test]
 fn inserts(rt: HostRuntime) -> Result<(), Fail> {
     // At the front, in the middle, at the end, and in an empty element.
-    expect(&rt, &[Step::Insert(1, 0)], "0(1 6) 1(7 2 5) 2(3 4) 3'x' 4'y' 5() 6'z' 7(8) 8()")?;
-    expect(&rt, &[Step::Insert(1, 1)], "0(1 6) 1(2 7 5) 2(3 4) 3'x' 4'y' 5() 6'z' 7(8) 8()")?;
-    expect(&rt, &[Step::Insert(1, 2)], "0(1 6) 1(2 5 7) 2(3 4) 3'x' 4'y' 5() 6'z' 7(8) 8()")?;
-    expect(&rt, &[Step::Insert(5, 0)], "0(1 6) 1(2 5) 2(3 4) 3'x' 4'y' 5(7) 6'z' 7(8) 8()")?;
+    expect(
+        &rt,
+        rt.alloc(),
+        &[Step::Insert(1, 0)],
+        "0(1 6) 1(7 2 5) 2(3 4) 3'x' 4'y' 5() 6'z' 7(8) 8()",
+    )?;
+    expect(
+        &rt,
+        rt.alloc(),
+        &[Step::Insert(1, 1)],
+        "0(1 6) 1(2 7 5) 2(3 4) 3'x' 4'y' 5() 6'z' 7(8) 8()",
+    )?;
+    expect(
+        &rt,
+        rt.alloc(),
+        &[Step::Insert(1, 2)],
+        "0(1 6) 1(2 5 7) 2(3 4) 3'x' 4'y' 5() 6'z' 7(8) 8()",
+    )?;
+    expect(
+        &rt,
+        rt.alloc(),
+        &[Step::Insert(5, 0)],
+        "0(1 6) 1(2 5) 2(3 4) 3'x' 4'y' 5(7) 6'z' 7(8) 8()",
+    )?;
     Ok(())
 }
 
 #[test]
 fn refused_inserts(rt: HostRuntime) -> Result<(), Fail> {
-    refuse(&rt, Step::Insert(7, 9), DocFault::NoNode)?;
-    refuse(&rt, Step::Insert(3, 9), DocFault::NotElement)?;
-    refuse(&rt, Step::Insert(2, 3), DocFault::BadIndex)?;
-    refuse(&rt, Step::Insert(5, usize::MAX), DocFault::BadIndex)
+    refuse(&rt, rt.alloc(), Step::Insert(7, 9), DocFault::NoNode)?;
+    refuse(&rt, rt.alloc(), Step::Insert(3, 9), DocFault::NotElement)?;
+    refuse(&rt, rt.alloc(), Step::Insert(2, 3), DocFault::BadIndex)?;
+    refuse(
+        &rt,
+        rt.alloc(),
+        Step::Insert(5, usize::MAX),
+        DocFault::BadIndex,
+    )
 }
 
 #[test]
 fn removes(rt: HostRuntime) -> Result<(), Fail> {
     // A text, an element with all below it, and then an insert, which gets new ids.
-    expect(&rt, &[Step::Remove(3)], "0(1 6) 1(2 5) 2(4) 4'y' 5() 6'z'")?;
-    expect(&rt, &[Step::Remove(5)], "0(1 6) 1(2) 2(3 4) 3'x' 4'y' 6'z'")?;
-    expect(&rt, &[Step::Remove(1), Step::Insert(0, 0)], "0(7 6) 6'z' 7(8) 8()")?;
-    refuse(&rt, Step::Remove(7), DocFault::NoNode)?;
-    refuse(&rt, Step::Remove(0), DocFault::IsRoot)
+    expect(
+        &rt,
+        rt.alloc(),
+        &[Step::Remove(3)],
+        "0(1 6) 1(2 5) 2(4) 4'y' 5() 6'z'",
+    )?;
+    expect(
+        &rt,
+        rt.alloc(),
+        &[Step::Remove(5)],
+        "0(1 6) 1(2) 2(3 4) 3'x' 4'y' 6'z'",
+    )?;
+    expect(
+        &rt,
+        rt.alloc(),
+        &[Step::Remove(1), Step::Insert(0, 0)],
+        "0(7 6) 6'z' 7(8) 8()",
+    )?;
+    refuse(&rt, rt.alloc(), Step::Remove(7), DocFault::NoNode)?;
+    refuse(&rt, rt.alloc(), Step::Remove(0), DocFault::IsRoot)
 }
 
 #[test]
 fn moves_below_one_parent(rt: HostRuntime) -> Result<(), Fail> {
     // Before and behind itself, and to where it stands.
-    expect(&rt, &[Step::Move(4, 2, 0)], "0(1 6) 1(2 5) 2(4 3) 3'x' 4'y' 5() 6'z'")?;
-    expect(&rt, &[Step::Move(3, 2, 1)], "0(1 6) 1(2 5) 2(4 3) 3'x' 4'y' 5() 6'z'")?;
-    expect(&rt, &[Step::Move(3, 2, 0)], "0(1 6) 1(2 5) 2(3 4) 3'x' 4'y' 5() 6'z'")?;
-    refuse(&rt, Step::Move(3, 2, 2), DocFault::BadIndex)
+    expect(
+        &rt,
+        rt.alloc(),
+        &[Step::Move(4, 2, 0)],
+        "0(1 6) 1(2 5) 2(4 3) 3'x' 4'y' 5() 6'z'",
+    )?;
+    expect(
+        &rt,
+        rt.alloc(),
+        &[Step::Move(3, 2, 1)],
+        "0(1 6) 1(2 5) 2(4 3) 3'x' 4'y' 5() 6'z'",
+    )?;
+    expect(
+        &rt,
+        rt.alloc(),
+        &[Step::Move(3, 2, 0)],
+        "0(1 6) 1(2 5) 2(3 4) 3'x' 4'y' 5() 6'z'",
+    )?;
+    refuse(&rt, rt.alloc(), Step::Move(3, 2, 2), DocFault::BadIndex)
 }
 
 #[test]
 fn moves_to_another_parent(rt: HostRuntime) -> Result<(), Fail> {
-    expect(&rt, &[Step::Move(2, 0, 2)], "0(1 6 2) 1(5) 2(3 4) 3'x' 4'y' 5() 6'z'")?;
-    expect(&rt, &[Step::Move(2, 5, 0)], "0(1 6) 1(5) 2(3 4) 3'x' 4'y' 5(2) 6'z'")?;
-    expect(&rt, &[Step::Move(6, 1, 1)], "0(1) 1(2 6 5) 2(3 4) 3'x' 4'y' 5() 6'z'")
+    expect(
+        &rt,
+        rt.alloc(),
+        &[Step::Move(2, 0, 2)],
+        "0(1 6 2) 1(5) 2(3 4) 3'x' 4'y' 5() 6'z'",
+    )?;
+    expect(
+        &rt,
+        rt.alloc(),
+        &[Step::Move(2, 5, 0)],
+        "0(1 6) 1(5) 2(3 4) 3'x' 4'y' 5(2) 6'z'",
+    )?;
+    expect(
+        &rt,
+        rt.alloc(),
+        &[Step::Move(6, 1, 1)],
+        "0(1) 1(2 6 5) 2(3 4) 3'x' 4'y' 5() 6'z'",
+    )
 }
 
 #[test]
 fn refused_moves(rt: HostRuntime) -> Result<(), Fail> {
-    refuse(&rt, Step::Move(7, 3, 9), DocFault::NoNode)?;
-    refuse(&rt, Step::Move(0, 7, 9), DocFault::NoNode)?;
-    refuse(&rt, Step::Move(0, 3, 9), DocFault::IsRoot)?;
-    refuse(&rt, Step::Move(1, 3, 9), DocFault::NotElement)?;
-    refuse(&rt, Step::Move(1, 5, 9), DocFault::Cycle)?;
-    refuse(&rt, Step::Move(1, 1, 9), DocFault::Cycle)?;
-    refuse(&rt, Step::Move(3, 1, 3), DocFault::BadIndex)
+    refuse(&rt, rt.alloc(), Step::Move(7, 3, 9), DocFault::NoNode)?;
+    refuse(&rt, rt.alloc(), Step::Move(0, 7, 9), DocFault::NoNode)?;
+    refuse(&rt, rt.alloc(), Step::Move(0, 3, 9), DocFault::IsRoot)?;
+    refuse(&rt, rt.alloc(), Step::Move(1, 3, 9), DocFault::NotElement)?;
+    refuse(&rt, rt.alloc(), Step::Move(1, 5, 9), DocFault::Cycle)?;
+    refuse(&rt, rt.alloc(), Step::Move(1, 1, 9), DocFault::Cycle)?;
+    refuse(&rt, rt.alloc(), Step::Move(3, 1, 3), DocFault::BadIndex)
 }
 
 #[test]
 fn moves_to_the_deepest_level(rt: HostRuntime) -> Result<(), Fail> {
     let mut doc = Doc::new(rt.alloc(), &chain(rt.alloc(), 95)?)?;
     let tree = chain(rt.alloc(), 2)?;
-    take(&mut doc, &tree, &Step::Insert(0, 0))?;
+    take(&mut doc, &tree, Step::Insert(0, 0))?;
     assert_eq!(rt; doc.move_to(95, 94, 0), Err(DocFault::DepthLimit));
     assert_eq!(rt; doc.move_to(95, 93, 0), Ok(()));
     assert_eq!(rt; doc.parent(95), Some(93));
@@ -266,29 +333,64 @@ fn moves_to_the_deepest_level(rt: HostRuntime) -> Result<(), Fail> {
 
 #[test]
 fn texts_and_attributes_that_are_set(rt: HostRuntime) -> Result<(), Fail> {
-    expect(&rt, &[Step::SetText(3, "ß")], "0(1 6) 1(2 5) 2(3 4) 3'ß' 4'y' 5() 6'z'")?;
-    expect(&rt, &[Step::SetAttr(5, "k", "v")], "0(1 6) 1(2 5) 2(3 4) 3'x' 4'y' 5[v]() 6'z'")?;
     expect(
         &rt,
-        &[Step::SetAttr(5, "k", "v"), Step::SetAttr(5, "a", "b"), Step::SetAttr(5, "k", "w")],
+        rt.alloc(),
+        &[Step::SetText(3, "ß")],
+        "0(1 6) 1(2 5) 2(3 4) 3'ß' 4'y' 5() 6'z'",
+    )?;
+    expect(
+        &rt,
+        rt.alloc(),
+        &[Step::SetAttr(5, "k", "v")],
+        "0(1 6) 1(2 5) 2(3 4) 3'x' 4'y' 5[v]() 6'z'",
+    )?;
+    expect(
+        &rt,
+        rt.alloc(),
+        &[
+            Step::SetAttr(5, "k", "v"),
+            Step::SetAttr(5, "a", "b"),
+            Step::SetAttr(5, "k", "w"),
+        ],
         "0(1 6) 1(2 5) 2(3 4) 3'x' 4'y' 5[w]() 6'z'",
     )?;
     expect(
         &rt,
-        &[Step::SetAttr(5, "k", "v"), Step::DropAttr(5, "k"), Step::DropAttr(5, "k")],
+        rt.alloc(),
+        &[
+            Step::SetAttr(5, "k", "v"),
+            Step::DropAttr(5, "k"),
+            Step::DropAttr(5, "k"),
+        ],
         "0(1 6) 1(2 5) 2(3 4) 3'x' 4'y' 5() 6'z'",
     )
 }
 
 #[test]
 fn refused_texts_and_attributes(rt: HostRuntime) -> Result<(), Fail> {
-    refuse(&rt, Step::SetText(7, ""), DocFault::NoNode)?;
-    refuse(&rt, Step::SetText(5, ""), DocFault::NotText)?;
-    refuse(&rt, Step::SetAttr(7, "<", ""), DocFault::NoNode)?;
-    refuse(&rt, Step::SetAttr(3, "<", ""), DocFault::NotElement)?;
-    refuse(&rt, Step::SetAttr(5, "<", ""), DocFault::BadName)?;
-    refuse(&rt, Step::DropAttr(7, "k"), DocFault::NoNode)?;
-    refuse(&rt, Step::DropAttr(3, "k"), DocFault::NotElement)
+    refuse(&rt, rt.alloc(), Step::SetText(7, ""), DocFault::NoNode)?;
+    refuse(&rt, rt.alloc(), Step::SetText(5, ""), DocFault::NotText)?;
+    refuse(&rt, rt.alloc(), Step::SetAttr(7, "<", ""), DocFault::NoNode)?;
+    refuse(
+        &rt,
+        rt.alloc(),
+        Step::SetAttr(3, "<", ""),
+        DocFault::NotElement,
+    )?;
+    refuse(
+        &rt,
+        rt.alloc(),
+        Step::SetAttr(5, "<", ""),
+        DocFault::BadName,
+    )?;
+    refuse(&rt, rt.alloc(), Step::DropAttr(7, "k"), DocFault::NoNode)?;
+    refuse(
+        &rt,
+        rt.alloc(),
+        Step::DropAttr(3, "k"),
+        DocFault::NotElement,
+    )
 }
 
 /// So many letters.
@@ -308,7 +410,10 @@ fn the_longest_text(rt: HostRuntime) -> Result<(), Fail> {
     assert_eq!(rt; doc.set_attr(5, "k", long.as_str()), Ok(()));
     long.push('t')?;
     assert_eq!(rt; doc.set_text(4, long.as_str()), Err(DocFault::TextLimit));
-    assert_eq!(rt; doc.set_attr(5, "k", long.as_str()), Err(DocFault::TextLimit));
+    assert_eq!(rt;
+        doc.set_attr(5, "k", long.as_str()),
+        Err(DocFault::TextLimit)
+    );
     Ok(())
 }
 
@@ -337,16 +442,21 @@ fn as_many_attributes_as_there_may_be(rt: HostRuntime) -> Result<(), Fail> {
 }
 
 /// Asserts why no document is made of a tree.
-fn expect_no_document(rt: &HostRuntime, tree: &Tree, fault: DocFault)
+fn expect_no_document(rt: &impl Abort, alloc: Global, tree: &Tree, fault: DocFault)
     requires { is_elem (shape tree.now) ≡ true }
 {
-    assert_eq!(rt; Doc::new(rt.alloc(), tree).err(), Some(fault));
+    assert_eq!(rt; Doc::new(alloc, tree).err(), Some(fault));
 }
 
 #[test]
 fn the_deepest_tree(rt: HostRuntime) -> Result<(), Fail> {
     let mut doc = Doc::new(rt.alloc(), &chain(rt.alloc(), 96)?)?;
-    expect_no_document(&rt, &chain(rt.alloc(), 97)?, DocFault::DepthLimit);
+    expect_no_document(
+        &rt,
+        rt.alloc(),
+        &chain(rt.alloc(), 97)?,
+        DocFault::DepthLimit,
+    );
     let one = text(rt.alloc(), "t")?;
     assert_eq!(rt; doc.insert(95, 0, &one), Err(DocFault::DepthLimit));
     assert_eq!(rt; doc.insert(94, 0, &one), Ok(96));
@@ -356,7 +466,12 @@ fn the_deepest_tree(rt: HostRuntime) -> Result<(), Fail> {
 #[test]
 fn as_many_nodes_as_there_may_be(rt: HostRuntime) -> Result<(), Fail> {
     let mut doc = Doc::new(rt.alloc(), &texts(rt.alloc(), 19_999, "t")?)?;
-    expect_no_document(&rt, &texts(rt.alloc(), 20_000, "t")?, DocFault::NodeLimit);
+    expect_no_document(
+        &rt,
+        rt.alloc(),
+        &texts(rt.alloc(), 20_000, "t")?,
+        DocFault::NodeLimit,
+    );
     let one = text(rt.alloc(), "t")?;
     assert_eq!(rt; doc.insert(0, 0, &one), Err(DocFault::NodeLimit));
     doc.remove(1)?;
