@@ -1,8 +1,8 @@
 //! The order of pulls and pushes, seen by a source and a sink that count them together.
 ghost use Rattle.std.specs.Prelude.{None};
 
-use crate::{Status, serve};
 use port_core::{NoMemory, Pull, Push, Sink, Source, Steps};
+use relayout_cli::{Status, serve};
 use std::alloc::Global;
 use std::cell::Cell;
 use std::process::Abort;
