@@ -1,49 +1,32 @@
 -- The children of a node as its slot tells them.
-use Rattle.std.proofs.Common.{List, None, Option, Some, [], ap, arith, inl, inr, length, map, option_and_then, option_map, refl, slice_get, suc, sym, zero, ℕ, ◌∙◌, ◌∷◌, ◌≡◌}
+use Rattle.std.proofs.Common.{List, None, Some, ap, arith, inl, inr, length, map, option_and_then, option_map, slice_get, sym, ℕ, ◌∙◌, ◌≡◌}
 use Rattle.dom_arena.proofs.Docs.{doc-facts, found-by, not-found, slot-node}
 use Rattle.dom_arena.proofs.Found.{find-children}
 use Rattle.dom_arena.proofs.Readings.{siblings-chain}
 use Rattle.dom_arena.proofs.Releases.{slot-of-body}
 use Rattle.dom_arena.proofs.Renamed.{children-renamed}
 use Rattle.dom_arena.proofs.Written.{body-parts}
-use Rattle.dom_arena.specs.Built.{after_in}
-use Rattle.dom_arena.specs.Cells.{IsLinked, Place, body_of}
+use Rattle.dom_arena.specs.Cells.{IsLinked, body_of}
 use Rattle.dom_arena.specs.Docs.{IsDoc, document_in}
 use Rattle.dom_arena.specs.Found.{AreFound}
-use Rattle.dom_arena.specs.Reading.{siblings, tree_in}
+use Rattle.dom_arena.specs.Reading.{ids_from, siblings, tree_in}
 use Rattle.dom_arena.specs.Rename.{rename}
 use Rattle.dom_arena.specs.Slots.{cells_of, child_number, first_link, id_at, place_at, table_at, target}
 use Rattle.dom_arena.specs.Stores.{Kept, slot_by_id}
 use Rattle.page_laws.proofs.Options.{none-or-some}
 use Rattle.page_laws.proofs.ParentOf.{child_ids-found}
 use Rattle.page_laws.proofs.TreeAfterMove.{list-dead}
-use Rattle.page_model.specs.Document.{Node, child_ids, children_of, find, id_of, ids, ids_of}
-use Rattle.dom_arena.specs.declared.slot.Slot.{Slot}
-
--- the siblings from a slot on
-pub siblings-next : (slots : List Slot) (left k x : ℕ) (at next : Option ℕ) → left ≡ suc k → at ≡ Some x → next ≡ after_in (place_at slots x)
-    → siblings (place_at slots) left at ≡ x ∷ siblings (place_at slots) k next
-siblings-next slots left k x at next count here e =
-    (λ j. siblings (place_at slots) (count j) (here j))
-    ∙ ap (λ o. x ∷ siblings (place_at slots) k o) (by-place (place_at slots x) ∙ sym e)
-  where
-    by-place : (o : Option Place) → option_and_then (λ (p : Place). p.after) o ≡ after_in o
-    by-place None = refl
-    by-place (Some p) = refl
-
-pub siblings-end : (place : ℕ → Option Place) (left : ℕ) (at : Option ℕ) → at ≡ None → siblings place left at ≡ []
-siblings-end place zero at e = refl
-siblings-end place (suc k) at e = ap (siblings place (suc k)) e
+use Rattle.page_model.specs.Document.{Node, child_ids, children_of, find, id_of, ids_of}
 
 -- the list of children of the node with an id
 pub read-children : (k : Kept) (x i : ℕ) → IsDoc k x
-    → map (id_at k.slots) (siblings (place_at k.slots) (child_number (slot_by_id k i)) (target (first_link (slot_by_id k i)))) ≡ child_ids i (document_in k x).root
+    → ids_from k.slots (child_number (slot_by_id k i)) (target (first_link (slot_by_id k i))) ≡ child_ids i (document_in k x).root
 read-children k x i d =
     let f : ℕ → ℕ = id_at k.slots in
     let n : Node = tree_in k.slots x in
     elim (none-or-some (table_at k.table i)) [
       | inl e ↦
-          ap (λ o. map f (siblings (place_at k.slots) (child_number o) (target (first_link o)))) (ap (option_and_then (slice_get k.slots)) e)
+          ap (λ o. ids_from k.slots (child_number o) (target (first_link o))) (ap (option_and_then (slice_get k.slots)) e)
           ∙ sym (list-dead i (document_in k x).root (not-found k x n i d.tree e))
       | inr e ↦
           let y : ℕ = e.0 in
@@ -56,7 +39,7 @@ read-children k x i d =
           let all : siblings (place_at k.slots) s.0.children (target s.0.first) ≡ list =
           (λ j. siblings (place_at k.slots) (parts.3 j) (parts.1 j)) ∙ siblings-chain (place_at k.slots) (id_of m.0) (length list) None list linked.1 (omega arith) in
           let found : find i (document_in k x).root ≡ Some (rename f m.0) = found-by k x n i y d.tree e.1 ∙ ap (option_map (rename f)) m.1.0 in
-          ap (λ o. map f (siblings (place_at k.slots) (child_number o) (target (first_link o)))) slot
+          ap (λ o. ids_from k.slots (child_number o) (target (first_link o))) slot
           ∙ (ap (map f) all ∙ (sym (children-renamed f m.0) ∙ sym (child_ids-found i (document_in k x).root (rename f m.0) found)))
     ]
 

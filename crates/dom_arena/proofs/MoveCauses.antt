@@ -3,7 +3,7 @@ use Rattle.std.proofs.Common.{Bool, None, Option, Some, [], ap, false, is_none, 
 use Rattle.dom_arena.proofs.Builds.{map-length}
 use Rattle.dom_arena.proofs.Docs.{not-found, tree-alone}
 use Rattle.dom_arena.proofs.Renamed.{alone-test, child_ids-renamed, find-renamed, height-renamed, id_of-renamed, ids-renamed, is_among-renamed, level-renamed, name_of-renamed, removed-renamed}
-use Rattle.dom_arena.specs.Docs.{IsDoc, document_in}
+use Rattle.dom_arena.specs.Docs.{IsDoc, Seen, document_in}
 use Rattle.dom_arena.specs.Moving.{slot_document}
 use Rattle.dom_arena.specs.Reading.{tree_in}
 use Rattle.dom_arena.specs.Rename.{IsAlone, rename}
@@ -114,6 +114,12 @@ causes-by-slot k x i p y q index d e g =
     let pq = d.tree.store.found p q g in
     (λ j. move_causes (sym iy.1 j) (sym pq.1 j) index (document_in k x))
     ∙ causes-renamed (id_at k.slots) y q index (length k.table) n (tree-alone k x n d.tree y (d.tree.only y iy.0)) (tree-alone k x n d.tree q (d.tree.only q pq.0))
+
+-- what a `Doc` is seen as has the causes that the slots have
+pub causes-seen : (k : Kept) (x i p y q index : ℕ) (s : Seen) → record { document = document_in k x } ≡ s → IsDoc k x → table_at k.table i ≡ Some y → table_at k.table p ≡ Some q
+    → first_of (move_causes i p index s.document) ≡ first_of (move_causes y q index (slot_document k x))
+causes-seen k x i p y q index s is d e g =
+    ap (λ (t : Seen). first_of (move_causes i p index t.document)) (sym is) ∙ ap first_of (causes-by-slot k x i p y q index d e g)
 
 pub move-no-node : (k : Kept) (x i p index : ℕ) → IsDoc k x → table_at k.table i ≡ None → first_of (move_causes i p index (document_in k x)) ≡ Some cause.NoNode
 move-no-node k x i p index d e =

@@ -111,11 +111,10 @@ kept-moved i parent index l n d m at deep keeps =
 
 -- ---- limits ask nothing of ids
 
-pub limits-renamed : (f : ℕ → ℕ) (n : Node) (next : ℕ) → KeepsLimits (record { root = n; next_id = next }) → KeepsLimits (record { root = rename f n; next_id = next })
-limits-renamed f n next keeps =
-    let same : without_ids (rename f n) ≡ without_ids n = without-renamed f n in
-    let long : length (ids (rename f n)) ≡ length (ids n) = ap length (ids-renamed f n) ∙ map-length f (ids n) in
-    let points : text_size (without_ids (rename f n)) ≡ text_size (without_ids n) = ap text_size same in
+limits-same : (n m : Node) (next : ℕ) → without_ids n ≡ without_ids m → height n ≡ height m → length (ids n) ≡ length (ids m) → KeepsLimits (record { root = m; next_id = next })
+    → KeepsLimits (record { root = n; next_id = next })
+limits-same n m next same high long keeps =
+    let points : text_size (without_ids n) ≡ text_size (without_ids m) = ap text_size same in
     record {
       grammar = record {
         names = ap has_bad_name same ∙ keeps.grammar.names;
@@ -123,24 +122,16 @@ limits-renamed f n next keeps =
         texts = ap has_long_text same ∙ keeps.grammar.texts;
       };
       code_points = omega (arith, points, keeps.code_points);
-      low = omega (arith, height-renamed f n, keeps.low);
+      low = omega (arith, high, keeps.low);
       few = omega (arith, long, keeps.few);
       given = keeps.given;
     }
 
+ids-long : (f : ℕ → ℕ) (n : Node) → length (ids (rename f n)) ≡ length (ids n)
+ids-long f n = ap length (ids-renamed f n) ∙ map-length f (ids n)
+
+pub limits-renamed : (f : ℕ → ℕ) (n : Node) (next : ℕ) → KeepsLimits (record { root = n; next_id = next }) → KeepsLimits (record { root = rename f n; next_id = next })
+limits-renamed f n next = limits-same (rename f n) n next (without-renamed f n) (height-renamed f n) (ids-long f n)
+
 pub limits-unnamed : (f : ℕ → ℕ) (n : Node) (next : ℕ) → KeepsLimits (record { root = rename f n; next_id = next }) → KeepsLimits (record { root = n; next_id = next })
-limits-unnamed f n next keeps =
-    let same : without_ids n ≡ without_ids (rename f n) = sym (without-renamed f n) in
-    let long : length (ids (rename f n)) ≡ length (ids n) = ap length (ids-renamed f n) ∙ map-length f (ids n) in
-    let points : text_size (without_ids n) ≡ text_size (without_ids (rename f n)) = ap text_size same in
-    record {
-      grammar = record {
-        names = ap has_bad_name same ∙ keeps.grammar.names;
-        attributes = ap has_many_attributes same ∙ keeps.grammar.attributes;
-        texts = ap has_long_text same ∙ keeps.grammar.texts;
-      };
-      code_points = omega (arith, points, keeps.code_points);
-      low = omega (arith, height-renamed f n, keeps.low);
-      few = omega (arith, long, keeps.few);
-      given = keeps.given;
-    }
+limits-unnamed f n next = limits-same n (rename f n) next (sym (without-renamed f n)) (sym (height-renamed f n)) (sym (ids-long f n))

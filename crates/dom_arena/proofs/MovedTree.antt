@@ -23,6 +23,7 @@ use Rattle.dom_arena.specs.Rename.{IsAlone, rename}
 use Rattle.dom_arena.specs.Slots.{IsLive, body_at, cells_of, id_at}
 use Rattle.dom_arena.specs.Stores.{Kept}
 use Rattle.dom_arena.specs.Taking.{IsDocOf, taken_out}
+use Rattle.dom_arena.specs.Writes.{attached}
 use Rattle.page_laws.proofs.Find.{among-find, among-top, child-below, find-distinct, find-id, find-part, some-among}
 use Rattle.page_laws.proofs.IsAmong.{among-is_among}
 use Rattle.page_laws.proofs.Levels.{level-found}
@@ -82,15 +83,27 @@ may-move k x y q index m d f live h =
 
 -- ---- the slots after the node was hung again
 
-pub record Rehung (a : Kept) (slots : List Slot) (n : Node) (q index : ℕ) (m : Node) : Type 0 where
+pub record Rehung (a : Kept) (slots : List Slot) (n : Node) (y q index : ℕ) (m : Node) : Type 0 where
   pub parent : Node
-  pub found : find q (tree_after_remove (id_of m) n) ≡ Some parent
+  pub found : find q (tree_after_remove y n) ≡ Some parent
   pub hangs : Attaches (cells_of a.slots) (cells_of slots) q index m parent
   pub relinked : Relinked a.slots slots
 
+by-hung : (a : Kept) (slots : List Slot) (n m p : Node) (y q index : ℕ) (hung : IsHung a.slots slots q y index (ids_of (children_of p))) → find q (tree_after_remove y n) ≡ Some p
+    → Attaches (cells_of a.slots) (cells_of (attached q y hung.prev hung.next a.slots)) q index m p → Rehung a slots n y q index m
+by-hung a slots n m p y q index hung found made = record {
+  parent = p;
+  found = found;
+  hangs = subst (λ (ss : List Slot). Attaches (cells_of a.slots) (cells_of ss) q index m p) (sym hung.written) made;
+  relinked = subst (Relinked a.slots) (sym hung.written) (relinked-attached a.slots q y hung.prev hung.next);
+}
+
+here-among : (y : ℕ) (m : Node) → y ≡ id_of m → IsAmong y (ids m)
+here-among y m e = subst (λ (z : ℕ). IsAmong z (ids m)) (sym e) (among-top m)
+
 pub rehung : (k : Kept) (x y q index : ℕ) (m : Node) (slots : List Slot) → IsDoc k x → (t : HoldsTaken (record k { slots = taken_out y k.slots }) x (tree_in k.slots x) y m) → MayMove k x y q index m
     → ((p : Node) → id_of p ≡ q → IsLinked (cells_of (taken_out y k.slots)) p → index ≤ length (ids_of (children_of p)) → IsHung (taken_out y k.slots) slots q y index (ids_of (children_of p)))
-    → Rehung (record k { slots = taken_out y k.slots }) slots (tree_in k.slots x) q index m
+    → Rehung (record k { slots = taken_out y k.slots }) slots (tree_in k.slots x) y q index m
 rehung k x y q index m slots d t may step =
     let n : Node = tree_in k.slots x in
     let a : Kept = record k { slots = taken_out y k.slots } in
@@ -103,7 +116,7 @@ rehung k x y q index m slots d t may step =
     let hung : IsHung a.slots slots q y index (ids_of (children_of p.0)) = step p.0 (sym same_q) linked (omega (arith, may.has_place, list)) in
     let apart = part-apart (ids n) (ids m) (ids rest) (spliced-removed y n m t.distinct t.found t.inner) t.distinct in
     let dr : AreDistinct (ids rest) = distinct-removed y n t.distinct in
-    let live_y : IsLive a.slots y = linked-live a.slots m y t.taken (subst (λ (z : ℕ). IsAmong z (ids m)) (sym number) (among-top m)) in
+    let live_y : IsLive a.slots y = linked-live a.slots m y t.taken (here-among y m number) in
     let live_q : IsLive a.slots q = linked-live a.slots rest q t.rest (some-among q rest p.0 p.1) in
     let few : length (ids_of (children_of p.0)) < 4294967295 =
     let part = part-length q rest p.0 p.1 in
@@ -112,17 +125,12 @@ rehung k x y q index m slots d t may step =
     omega (arith, children-count p.0, part, less, t.live, kept, t.store.few) in
     let made = attaches a.slots q y index hung.prev hung.next m p.0 number (live-within a.slots y live_y) (live-small a y t.store live_y) (live-small a q t.store live_q) few hung.between.0 hung.between.1
     (ap (body_at a.slots) same_q ∙ linked.0)
-    (λ j b e. apart y (subst (λ (z : ℕ). IsAmong z (ids m)) (sym number) (among-top m)) (subst (λ (z : ℕ). IsAmong z (ids rest)) e (find-part q rest p.0 j p.1 (child-below j p.0 b))))
+    (λ j b e. apart y (here-among y m number) (subst (λ (z : ℕ). IsAmong z (ids rest)) e (find-part q rest p.0 j p.1 (child-below j p.0 b))))
     (children-distinct p.0 (find-distinct q rest p.0 p.1 dr)) in
-    record {
-      parent = p.0;
-      found = subst (λ (z : ℕ). find q (tree_after_remove z n) ≡ Some p.0) number p.1;
-      hangs = subst (λ (ss : List Slot). Attaches (cells_of a.slots) (cells_of ss) q index m p.0) (sym hung.written) made;
-      relinked = subst (Relinked a.slots) (sym hung.written) (relinked-attached a.slots q y hung.prev hung.next);
-    }
+    by-hung a slots n m p.0 y q index hung p.1 made
 
 pub rehung-holds : (k : Kept) (x y q index : ℕ) (m : Node) (slots : List Slot) → IsDoc k x → HoldsTaken (record k { slots = taken_out y k.slots }) x (tree_in k.slots x) y m → MayMove k x y q index m
-    → Relinked k.slots (taken_out y k.slots) → Rehung (record k { slots = taken_out y k.slots }) slots (tree_in k.slots x) q index m
+    → Relinked k.slots (taken_out y k.slots) → Rehung (record k { slots = taken_out y k.slots }) slots (tree_in k.slots x) y q index m
     → HoldsTree (record k { slots = slots }) x (tree_after_move y q index (tree_in k.slots x))
 rehung-holds k x y q index m slots d t may relinked r =
     let n : Node = tree_in k.slots x in
@@ -130,7 +138,7 @@ rehung-holds k x y q index m slots d t may relinked r =
     let rest : Node = tree_after_remove y n in
     let moved : Node = tree_after_insert q index m rest in
     let number : y ≡ id_of m = find-id y n m t.found in
-    let found : find q rest ≡ Some r.parent = subst (λ (z : ℕ). find q (tree_after_remove z n) ≡ Some r.parent) (sym number) r.found in
+    let found : find q rest ≡ Some r.parent = r.found in
     let apart = part-apart (ids n) (ids m) (ids rest) (spliced-removed y n m t.distinct t.found t.inner) t.distinct in
     let dr : AreDistinct (ids rest) = distinct-removed y n t.distinct in
     let same : tree_after_move y q index n ≡ moved = move-is y q index m n t.found in
@@ -181,7 +189,7 @@ doc-moved k x y q index slots d live live_q none step =
     let is : w.node ≡ m = same_Some w.node m (sym w.found ∙ there.1.0) in
     let t : HoldsTaken a x n y m = subst (HoldsTaken a x n y) is (taken-holds k x n y d.tree w other) in
     let out : Relinked k.slots a.slots = taken-relinked k.slots n y w in
-    let r : Rehung a slots n q index m = rehung k x y q index m slots d t may step in
+    let r : Rehung a slots n y q index m = rehung k x y q index m slots d t may step in
     let moved : Node = tree_after_move y q index n in
     let holds : HoldsTree b x moved = rehung-holds k x y q index m slots d t may out r in
     let ay : IsAlone f y (ids n) = tree-alone k x n d.tree y (d.tree.only y live) in

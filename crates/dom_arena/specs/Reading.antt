@@ -4,7 +4,7 @@ use Rattle.page_model.specs.Document.{Node, element, text, nodes_of}
 use Rattle.page_model.specs.declared.limits.TheConstants.{MAX_NODES, MAX_DEPTH}
 use Rattle.dom_arena.specs.declared.slot.Slot.{Slot}
 use Rattle.dom_arena.specs.Cells.{Place, Body, Cells}
-use Rattle.dom_arena.specs.Slots.{cells_of}
+use Rattle.dom_arena.specs.Slots.{cells_of, id_at, place_at}
 
 -- this one and those that come after it, at most `k`
 abbrev pub siblings : (ℕ → Option Place) → ℕ → Option ℕ → List ℕ
@@ -29,3 +29,7 @@ below c many (suc levels) x = node_of c many (below c many levels) x (c.body x)
 -- the tree of slots that the links are, from the slot of the root on
 abbrev pub tree_in : List Slot → ℕ → Node
 tree_in slots x = below (cells_of slots) MAX_NODES MAX_DEPTH x
+
+-- the ids of the nodes in this slot and in those of its next siblings, at most `k`
+abbrev pub ids_from : List Slot → ℕ → Option ℕ → List ℕ
+ids_from slots k o = map (id_at slots) (siblings (place_at slots) k o)

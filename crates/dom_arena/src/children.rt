@@ -1,12 +1,12 @@
 //! The children of a node, one after another (DOM section 4.4, childNodes).
-ghost use Rattle.std.specs.Prelude.{◌≡◌, map};
+ghost use Rattle.std.specs.Prelude.{◌≡◌};
 ghost use Rattle.std.specs.Iterator.{YieldsFirst, item_count};
-ghost use Rattle.dom_arena.specs.Reading.{siblings};
-ghost use Rattle.dom_arena.specs.Slots.{id_at, place_at, target};
+ghost use Rattle.dom_arena.specs.Reading.{ids_from};
+ghost use Rattle.dom_arena.specs.Slots.{target};
 
 use crate::link::Link;
 use crate::release::next_of;
-use crate::slot::Slot;
+use crate::store::Store;
 use port_core::NodeId;
 use std::marker::Model;
 
@@ -15,7 +15,7 @@ use std::marker::Model;
 /// Contracts see the list of those that are left.
 #[derive(Debug, Drop)]
 pub struct Children<'a> {
-    slots: &'a [Slot],
+    store: &'a Store,
     /// The next child.
     next: Link,
     /// How many are left.
@@ -23,36 +23,25 @@ pub struct Children<'a> {
 }
 
 impl<'a> Model for Children<'a> {
-    ghost use Rattle.std.specs.Prelude.{List, map, ℕ};
-    ghost use Rattle.dom_arena.specs.Reading.{siblings};
-    ghost use Rattle.dom_arena.specs.Slots.{id_at, place_at, target};
+    ghost use Rattle.std.specs.Prelude.{List, ℕ};
+    ghost use Rattle.dom_arena.specs.Reading.{ids_from};
+    ghost use Rattle.dom_arena.specs.Slots.{target};
 
     ghost Value = { List ℕ };
 
-    ghost view = { λ c. map (id_at c.slots.now) (siblings (place_at c.slots.now) c.left (target c.next)) };
+    ghost view = { λ c. ids_from c.store.now.slots.items c.left (target c.next) };
 }
 
 impl<'a> Children<'a> {
-    /// Returns the ids of `count` siblings from that in the slot of `first` on.
-    pub(crate) fn from(slots: &'a [Slot], first: Link, count: u32) -> Children<'a>
-        ensures { result ≡ map (id_at slots.entry.now)
-            (siblings (place_at slots.entry.now) count (target first)) }
+    /// Returns the ids of `count` siblings, from that in the slot of `first` on.
+    pub(crate) fn from(store: &'a Store, first: Link, count: u32) -> Children<'a>
+        ensures { result ≡ ids_from store.entry.now.slots.items count (target first) }
     {
         Children {
-            slots,
+            store,
             next: first,
             left: count,
         }
-    }
-}
-
-/// Returns the id of the node in the slot `at`.
-fn id_in(slots: &[Slot], at: u32) -> NodeId
-    ensures { result ≡ id_at slots.now at }
-{
-    match slots.get(at as usize) {
-        Some(slot) => slot.id,
-        None => 0,
     }
 }
 
@@ -68,8 +57,8 @@ impl<'a> Iterator for Children<'a> {
             return None;
         }
         let at = self.next.get()?;
-        self.next = next_of(self.slots, at);
+        self.next = next_of(self.store.slots.as_slice(), at);
         self.left -= 1;
-        Some(id_in(self.slots, at))
+        Some(self.store.id_in(at))
     }
 }

@@ -139,9 +139,8 @@ impl Doc {
         ensures found { (n : Node) → find id self.now.document.root ≡ Some n
             → AreFound self.now.document.root (children_of n) }
     {
-        let slots = self.store.slots.as_slice();
         let at = self.store.slot(id);
-        Children::from(slots, reading::first(at), reading::count(at))
+        Children::from(&self.store, reading::first(at), reading::count(at))
     }
 
     /// Returns the element that has the node `id` among its children.

@@ -1,9 +1,9 @@
-use Rattle.std.proofs.Common.{Some, map, rules, subst, ◌≡◌}
+use Rattle.std.proofs.Common.{Some, rules, subst, ◌≡◌}
 use Rattle.page_model.specs.Document.{Node, child_ids, children_of, find}
 use Rattle.dom_arena.specs.Docs.{Seen}
 use Rattle.dom_arena.specs.Found.{AreFound}
-use Rattle.dom_arena.specs.Reading.{siblings}
-use Rattle.dom_arena.specs.Slots.{child_number, first_link, id_at, place_at, target}
+use Rattle.dom_arena.specs.Reading.{ids_from}
+use Rattle.dom_arena.specs.Slots.{child_number, first_link, target}
 use Rattle.dom_arena.specs.Stores.{Kept, slot_by_id}
 use Rattle.dom_arena.specs.Views.{kept}
 use Rattle.dom_arena.proofs.ChildLists.{children-found, read-children}
@@ -12,8 +12,8 @@ use Rattle.dom_arena.proofs.doc.Doc.children.Goals as goal
 pub returns-clause-children : goal.returns-clause-children
 returns-clause-children c =
     let k : Kept = kept c.self.inside.store in
-    let found : map (id_at k.slots) (siblings (place_at k.slots) (child_number (slot_by_id k c.args.id)) (target (first_link (slot_by_id k c.args.id)))) ≡ child_ids c.args.id c.args.self.now.document.root =
-    subst (λ (s : Seen). map (id_at k.slots) (siblings (place_at k.slots) (child_number (slot_by_id k c.args.id)) (target (first_link (slot_by_id k c.args.id)))) ≡ child_ids c.args.id s.document.root) c.self.view_is
+    let found : ids_from k.slots (child_number (slot_by_id k c.args.id)) (target (first_link (slot_by_id k c.args.id))) ≡ child_ids c.args.id c.args.self.now.document.root =
+    subst (λ (s : Seen). ids_from k.slots (child_number (slot_by_id k c.args.id)) (target (first_link (slot_by_id k c.args.id))) ≡ child_ids c.args.id s.document.root) c.self.view_is
     (read-children k c.self.inside.root c.args.id c.self.invariant) in
     search rules
 

@@ -1,14 +1,13 @@
-use Rattle.std.proofs.Common.{None, Some, inr, rules, subst, ap, ◌∙◌, ◌≡◌}
+use Rattle.std.proofs.Common.{None, Some, inr, rules, subst, ◌∙◌, ◌≡◌}
 use Rattle.page_model.specs.Edits.{move_causes}
 use Rattle.page_model.specs.Refusals.{first_of}
 use Rattle.page_model.specs.declared.cause.Cause.TheVariants as cause
 use Rattle.dom_arena.specs.Docs.{Seen}
 use Rattle.dom_arena.specs.Faults.{cause_in}
-use Rattle.dom_arena.specs.Moving.{slot_document}
 use Rattle.dom_arena.specs.Slots.{table_at}
 use Rattle.dom_arena.specs.Stores.{Kept}
 use Rattle.dom_arena.specs.Views.{kept}
-use Rattle.dom_arena.proofs.MoveCauses.{causes-by-slot, move-no-node, move-no-parent}
+use Rattle.dom_arena.proofs.MoveCauses.{causes-seen, move-no-node, move-no-parent}
 use Rattle.dom_arena.proofs.doc.Doc.move_to.Goals as goal
 
 pub returns-in_default-clause-causes : goal.returns-in_default-clause-causes
@@ -30,10 +29,8 @@ returns-in_err-check_move-clause-causes c =
     let k : Kept = kept c.self.inside.store in
     let node : table_at k.table c.args.id ≡ Some c.in-Some.at = search rules in
     let parent : table_at k.table c.args.parent ≡ Some c.in-Some-at.up = search rules in
-    let same : move_causes c.args.id c.args.parent c.args.index c.args.self.now.document ≡ move_causes c.in-Some.at c.in-Some-at.up c.args.index (slot_document k c.self.inside.root) =
-    subst (λ (s : Seen). move_causes c.args.id c.args.parent c.args.index s.document ≡ move_causes c.in-Some.at c.in-Some-at.up c.args.index (slot_document k c.self.inside.root)) c.self.view_is
-    (causes-by-slot k c.self.inside.root c.args.id c.args.parent c.in-Some.at c.in-Some-at.up c.args.index c.self.invariant node parent) in
-    let answers : first_of (move_causes c.args.id c.args.parent c.args.index c.args.self.now.document) ≡ cause_in c.in_err-check_move.field-0.0 = ap first_of same ∙ c.in_err-check_move.ensures.1 in
+    let same = causes-seen k c.self.inside.root c.args.id c.args.parent c.in-Some.at c.in-Some-at.up c.args.index c.args.self.now c.self.view_is c.self.invariant node parent in
+    let answers : first_of (move_causes c.args.id c.args.parent c.args.index c.args.self.now.document) ≡ cause_in c.in_err-check_move.field-0.0 = same ∙ c.in_err-check_move.ensures.1 in
     search rules
 
 pub returns-clause-causes : goal.returns-clause-causes
@@ -41,7 +38,5 @@ returns-clause-causes c =
     let k : Kept = kept c.self.inside.store in
     let node : table_at k.table c.args.id ≡ Some c.in-Some.at = search rules in
     let parent : table_at k.table c.args.parent ≡ Some c.in-Some-at.up = search rules in
-    let same : move_causes c.args.id c.args.parent c.args.index c.args.self.now.document ≡ move_causes c.in-Some.at c.in-Some-at.up c.args.index (slot_document k c.self.inside.root) =
-    subst (λ (s : Seen). move_causes c.args.id c.args.parent c.args.index s.document ≡ move_causes c.in-Some.at c.in-Some-at.up c.args.index (slot_document k c.self.inside.root)) c.self.view_is
-    (causes-by-slot k c.self.inside.root c.args.id c.args.parent c.in-Some.at c.in-Some-at.up c.args.index c.self.invariant node parent) in
-    ap first_of same ∙ c.in_ok-check_move.ensures
+    let same = causes-seen k c.self.inside.root c.args.id c.args.parent c.in-Some.at c.in-Some-at.up c.args.index c.args.self.now c.self.view_is c.self.invariant node parent in
+    same ∙ c.in_ok-check_move.ensures
