@@ -1,8 +1,7 @@
 -- A name that is greater than the last is greater than all.
-use Rattle.std.proofs.Common.{Bool, Equal, Greater, Less, List, [], ap, arith, cond, eq-eqb, false, inl, inr, length, refl, slice_index_or, suc, sym, true, zero, ℕ, ◌&&◌, ◌+◌, ◌∙◌, ◌∷◌, ◌≡◌}
+use Rattle.std.proofs.Common.{Bool, Equal, Greater, Less, List, [], ap, arith, cond, eq-eqb, false, inl, inr, length, refl, slice_index_or, suc, sym, true, zero, ℕ, ◌∙◌, ◌∷◌, ◌≡◌}
 use Rattle.std.proofs.lemmas.Bool.{cases_Bool, false≢true}
 use Rattle.dom_arena.specs.Spots.{behind, order_of, spot_of}
-use Rattle.dom_arena.specs.declared.spots.Spot.{Spot}
 use Rattle.dom_arena.specs.declared.spots.Spot.TheVariants.{At, Before}
 use Rattle.page_laws.proofs.AttributesInOrder.{less-or-more, less-then-less, order-tail, same-text}
 use Rattle.page_laws.proofs.Options.{both-true}

@@ -1,16 +1,14 @@
 -- From a node up to the root by the links to parents.
-use Rattle.std.proofs.Common.{None, Option, Some, ap, arith, inl, inr, is_some, option_and_then, option_map, refl, slice_get, subst, suc, sym, ℕ, ◌+◌, ◌-◌, ◌==◌, ◌∙◌, ◌≡◌, ◌≤◌}
-use Rattle.std.proofs.lemmas.Bool.{false≢true}
+use Rattle.std.proofs.Common.{None, Option, Some, ap, arith, inl, inr, option_and_then, option_map, refl, slice_get, subst, suc, sym, ℕ, ◌+◌, ◌==◌, ◌∙◌, ◌≡◌, ◌≤◌}
 use Rattle.std.proofs.lemmas.Option.{none-some, same_Some}
 use Rattle.dom_arena.proofs.Docs.{place-node, slot-node, top-alone, tree-live}
 use Rattle.dom_arena.proofs.Releases.{slot-of-body}
 use Rattle.dom_arena.proofs.Renamed.{height-renamed}
 use Rattle.dom_arena.specs.Cells.{Place, body_of}
-use Rattle.dom_arena.specs.Docs.{IsDoc, document_in}
+use Rattle.dom_arena.specs.Docs.{IsDoc}
 use Rattle.dom_arena.specs.Reading.{tree_in}
-use Rattle.dom_arena.specs.Slots.{IsLive, id_at, place_at, place_in, target, up_link}
+use Rattle.dom_arena.specs.Slots.{IsLive, id_at, place_in, target, up_link}
 use Rattle.dom_arena.specs.Stores.{Kept}
-use Rattle.dom_arena.specs.declared.slot.Slot.{Slot}
 use Rattle.page_laws.proofs.Find.{among-find}
 use Rattle.page_laws.proofs.Levels.{level-child, level-element, level-found, level-height, level-text, level-top}
 use Rattle.page_laws.proofs.Options.{none-or-some, some-is}

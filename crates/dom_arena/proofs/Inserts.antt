@@ -1,8 +1,8 @@
 -- The slots after a tree was built and hung below a node, and after it could not be built.
-use Rattle.std.proofs.Common.{IsSome, List, None, Option, Some, [], ap, arith, drop, eqb-true, false, inl, inr, is_none, is_some, length, le-ltb, map, option_and_then, option_map, refl, slice_get, subst, suc, sym, take, true, unwrap_or, zero, ℕ, ◌+◌, ◌<◌, ◌==◌, ◌∙◌, ◌∷◌, ◌≡◌, ◌≤◌}
+use Rattle.std.proofs.Common.{IsSome, List, None, Option, Some, [], ap, arith, drop, false, inl, inr, is_none, is_some, length, option_and_then, option_map, refl, slice_get, subst, suc, sym, take, true, unwrap_or, zero, ℕ, ◌<◌, ◌∙◌, ◌∷◌, ◌≡◌, ◌≤◌}
 use Rattle.std.proofs.lemmas.Bool.{cases_lt, false≢true}
 use Rattle.std.proofs.lemmas.List.{length-take-le}
-use Rattle.std.proofs.lemmas.Option.{none-some, same_Some}
+use Rattle.std.proofs.lemmas.Option.{none-some}
 use Rattle.dom_arena.proofs.Attached.{Attaches, among-drop, among-take, linked-attached}
 use Rattle.dom_arena.proofs.Builds.{built-distinct, built-live, built-old, children-count, map-length}
 use Rattle.dom_arena.proofs.Chains.{end-among, front-among}
@@ -15,7 +15,7 @@ use Rattle.dom_arena.proofs.Renamed.{children-renamed, ids-renamed, inserted-ren
 use Rattle.dom_arena.proofs.Walks.{ends-of}
 use Rattle.dom_arena.specs.Between.{IsBetween}
 use Rattle.dom_arena.specs.Built.{Built, Restored}
-use Rattle.dom_arena.specs.Cells.{AreLinked, IsLinked, body_of, final, front}
+use Rattle.dom_arena.specs.Cells.{AreLinked, IsLinked, body_of}
 use Rattle.dom_arena.specs.Docs.{HoldsTree, IsDoc, document_in}
 use Rattle.dom_arena.specs.Inserting.{HasRoom, Inserts, element_causes, name_in_slot}
 use Rattle.dom_arena.specs.Reading.{tree_in}
@@ -33,12 +33,12 @@ use Rattle.page_laws.proofs.Levels.{level-found}
 use Rattle.page_laws.proofs.Options.{some-is}
 use Rattle.page_laws.proofs.ParentOf.{child-lower, child_ids-found}
 use Rattle.page_laws.proofs.Siblings.{children-distinct}
-use Rattle.page_laws.proofs.Spliced.{spliced-among, spliced-part, spliced-rest}
+use Rattle.page_laws.proofs.Spliced.{spliced-part, spliced-rest}
 use Rattle.page_laws.proofs.TreeAfterInsert.{distinct-inserted, id_of-inserted, name_of-inserted, node_count-inserted, spliced-inserted, text_size-inserted}
 use Rattle.page_laws.proofs.WithIds.{node_count-with_ids, without-with_ids}
-use Rattle.page_laws.specs.Ids.{AreApart, FitsBelow}
+use Rattle.page_laws.specs.Ids.{FitsBelow}
 use Rattle.page_laws.specs.Limits.{KeepsLimits}
-use Rattle.page_model.specs.Document.{AreDistinct, Document, IsAmong, Node, children_of, find, id_of, ids, ids_of, name_at, name_of, node_count, with_ids, without_ids}
+use Rattle.page_model.specs.Document.{Document, IsAmong, Node, children_of, find, id_of, ids, ids_of, name_at, name_of, node_count, with_ids, without_ids}
 use Rattle.page_model.specs.Edits.{child_count, document_after_insert, insert_causes, level, taken_below, tree_after_insert}
 use Rattle.page_model.specs.Refusals.{first_of}
 use Rattle.page_model.specs.declared.cause.Cause.TheVariants.{NoNode, NotElement}

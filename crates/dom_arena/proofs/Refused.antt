@@ -1,5 +1,5 @@
 -- The first cause of several lists, and causes by what was measured of a tree.
-use Rattle.std.proofs.Common.{Bool, IsErr, None, Ok, Err, Option, Result, Some, [], ap, arith, inl, inr, le-ltb, lt-ltb, ltb-false, ltb-true, min, nat_lt, refl, sym, true, ℕ, ◌++◌, ◌+◌, ◌-◌, ◌<◌, ◌^◌, ◌||◌, ◌∙◌, ◌∷◌, ◌≡◌, ◌≢◌, ◌≤◌}
+use Rattle.std.proofs.Common.{IsErr, None, Ok, Err, Result, Some, [], ap, arith, inl, inr, le-ltb, lt-ltb, ltb-false, ltb-true, min, nat_lt, refl, sym, ℕ, ◌++◌, ◌+◌, ◌-◌, ◌<◌, ◌^◌, ◌||◌, ◌∙◌, ◌∷◌, ◌≡◌, ◌≢◌, ◌≤◌}
 use Rattle.std.proofs.lemmas.Bool.{cases_Bool, false≢true}
 use Rattle.page_laws.proofs.FirstOf.{append-first, append-second}
 use Rattle.page_model.specs.Edits.{Taken, grammar_causes, size_causes}

@@ -1,5 +1,5 @@
 -- Walking along a list of children by their links.
-use Rattle.std.proofs.Common.{slice_get, List, None, Option, Some, [], ap, arith, drop, length, refl, subst, suc, sym, take, zero, ℕ, ◌++◌, ◌-◌, ◌<◌, ◌∙◌, ◌∷◌, ◌≡◌, ◌≤◌}
+use Rattle.std.proofs.Common.{slice_get, List, None, Option, Some, [], ap, arith, drop, length, refl, subst, suc, sym, take, zero, ℕ, ◌++◌, ◌<◌, ◌∙◌, ◌∷◌, ◌≡◌}
 use Rattle.std.proofs.lemmas.List.{take-append-drop}
 use Rattle.std.proofs.lemmas.Option.{none-some, same_Some}
 use Rattle.dom_arena.proofs.Builds.{drop-whole, take-whole}
@@ -9,11 +9,11 @@ use Rattle.dom_arena.proofs.Releases.{slot-of-body}
 use Rattle.dom_arena.proofs.Written.{body-parts}
 use Rattle.dom_arena.specs.Between.{IsBetween, before_in}
 use Rattle.dom_arena.specs.Built.{after_in}
-use Rattle.dom_arena.specs.Cells.{AreChained, IsLinked, Place, body_of, final, front}
-use Rattle.dom_arena.specs.Slots.{body_at, cells_of, child_number, first_link, last_link, place_at, target}
+use Rattle.dom_arena.specs.Cells.{AreChained, Place, body_of, final, front}
+use Rattle.dom_arena.specs.Slots.{body_at, child_number, first_link, last_link, target}
 use Rattle.dom_arena.specs.declared.link.Link.{Link}
 use Rattle.dom_arena.specs.declared.slot.Slot.{Slot}
-use Rattle.page_model.specs.Document.{Node, children_of, first, id_of, ids_of}
+use Rattle.page_model.specs.Document.{Node, children_of, ids_of}
 
 -- the item at an index
 item-at : (k : ℕ) (xs : List ℕ) → k < length xs → (y : ℕ) × ((drop k xs ≡ y ∷ drop (suc k) xs) × (take (suc k) xs ≡ take k xs ++ y ∷ []))

@@ -1,7 +1,5 @@
-use Rattle.std.proofs.Common.{None, Some, false, is_some, rules, slice_get, sym, true, ◌∙◌, ◌≡◌, ◌≢◌}
-use Rattle.page_model.specs.Refusals.{first_of}
-use Rattle.dom_arena.specs.Docs.{document_in}
-use Rattle.dom_arena.specs.Inserting.{element_causes, name_in_slot}
+use Rattle.std.proofs.Common.{None, Some, false, is_some, rules, slice_get, true, ◌≡◌, ◌≢◌}
+use Rattle.dom_arena.specs.Inserting.{name_in_slot}
 use Rattle.dom_arena.specs.Slots.{table_at}
 use Rattle.dom_arena.specs.Stores.{Kept}
 use Rattle.dom_arena.specs.Views.{kept}

@@ -1,6 +1,6 @@
-use Rattle.std.proofs.Common.{Bool, None, Ok, Err, Result, Some, [], ap, arith, le-ltb, lt-ltb, nat_lt, refl, rules, slice_get, subst, sym, true, false, ◌++◌, ◌∙◌, ◌∷◌, ◌≡◌, ◌≢◌, ◌<◌, ◌≤◌, ℕ}
+use Rattle.std.proofs.Common.{Bool, None, Ok, Err, Result, Some, [], arith, le-ltb, lt-ltb, nat_lt, refl, rules, slice_get, subst, true, false, ◌++◌, ◌∷◌, ◌≡◌, ◌≢◌, ◌<◌, ◌≤◌, ℕ}
 use Rattle.page_model.specs.Document.{Document}
-use Rattle.page_model.specs.Edits.{child_count, insert_causes, taken_below, tree_causes}
+use Rattle.page_model.specs.Edits.{child_count, taken_below, tree_causes}
 use Rattle.page_model.specs.Refusals.{Causes, first_of}
 use Rattle.page_model.specs.Trees as model
 use Rattle.page_model.specs.declared.cause.Cause.TheVariants.{BadIndex}

@@ -1,4 +1,4 @@
-use Rattle.std.proofs.Common.{List, ap, length, rules, subst, sym, take, ◌∙◌, ◌≡◌, ◌≤◌, ℕ}
+use Rattle.std.proofs.Common.{List, ap, length, rules, subst, sym, take, ◌∙◌, ◌≡◌, ◌≤◌}
 use Rattle.std.specs.Vec.{with_items}
 use Rattle.std.proofs.lemmas.List.{with_items_is}
 use Rattle.page_model.specs.Document.{Node, children_of, id_of, ids_of}
@@ -14,7 +14,7 @@ use Rattle.dom_arena.specs.Views.{kept}
 use Rattle.dom_arena.specs.Writes.{attached}
 use Rattle.dom_arena.specs.declared.link.Link.{Link}
 use Rattle.dom_arena.specs.declared.slot.Slot.{Slot}
-use Rattle.dom_arena.proofs.Inserts.{inserts, inserts-none, slots_hung}
+use Rattle.dom_arena.proofs.Inserts.{inserts, inserts-none}
 use Rattle.dom_arena.proofs.insert.insert_tree.Goals as goal
 
 pub returns-in-Ok-clause-inserted : goal.returns-in-Ok-clause-inserted

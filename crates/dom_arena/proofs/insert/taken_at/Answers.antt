@@ -1,4 +1,4 @@
-use Rattle.std.proofs.Common.{Some, arith, length, rules, sym, ◌∙◌, ◌≡◌, ◌≤◌}
+use Rattle.std.proofs.Common.{Some, arith, length, rules, ◌∙◌, ◌≡◌}
 use Rattle.page_model.specs.Edits.{level}
 use Rattle.dom_arena.specs.Reading.{tree_in}
 use Rattle.dom_arena.specs.Stores.{Kept}

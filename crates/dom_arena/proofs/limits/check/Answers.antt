@@ -1,4 +1,4 @@
-use Rattle.std.proofs.Common.{None, Ok, Err, Result, ap, rules, sym, subst, ◌++◌, ◌≡◌, ◌∙◌}
+use Rattle.std.proofs.Common.{None, ap, rules, sym, subst, ◌≡◌, ◌∙◌}
 use Rattle.page_model.specs.Edits.{Taken, grammar_causes, size_causes}
 use Rattle.page_model.specs.Refusals.{Causes, first_of}
 use Rattle.page_model.specs.Trees as model

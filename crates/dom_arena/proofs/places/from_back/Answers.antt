@@ -1,4 +1,4 @@
-use Rattle.std.proofs.Common.{Some, ap, arith, length, rules, subst, suc, sym, ◌+◌, ◌-◌, ◌∙◌, ◌≡◌, ℕ}
+use Rattle.std.proofs.Common.{Some, arith, length, rules, subst, suc, ◌+◌, ◌-◌, ◌≡◌, ℕ}
 use Rattle.dom_arena.specs.Between.{IsBetween}
 use Rattle.dom_arena.specs.Slots.{place_at, target}
 use Rattle.dom_arena.proofs.Walks.{between-prev, prev-there}

@@ -1,6 +1,6 @@
-use Rattle.std.proofs.Common.{None, ap, arith, length, rules, slice_get, subst, sym, ◌-◌, ◌∙◌, ◌≡◌, ◌≤◌, ℕ}
+use Rattle.std.proofs.Common.{None, ap, arith, length, slice_get, subst, sym, ◌-◌, ◌∙◌, ◌≡◌, ℕ}
 use Rattle.dom_arena.specs.Between.{IsBetween}
-use Rattle.dom_arena.specs.Cells.{AreChained, body_of}
+use Rattle.dom_arena.specs.Cells.{AreChained}
 use Rattle.dom_arena.specs.Slots.{body_at, child_number, first_link, last_link, place_at, target}
 use Rattle.dom_arena.proofs.Walks.{ends-of}
 use Rattle.page_model.specs.Document.{children_of, ids_of}

@@ -1,5 +1,5 @@
-use Rattle.std.proofs.Common.{None, ap, rules, sym, ◌∙◌, ◌≡◌}
-use Rattle.page_model.specs.Edits.{load_causes, tree_causes}
+use Rattle.std.proofs.Common.{None, rules, ◌≡◌}
+use Rattle.page_model.specs.Edits.{load_causes}
 use Rattle.page_model.specs.Refusals.{first_of}
 use Rattle.page_laws.proofs.KeptLimits.{kept-loaded}
 use Rattle.dom_arena.specs.Shape.{shape}
