@@ -27,9 +27,6 @@ use port_core::{NoMemory, NodeId};
 use std::alloc::Global;
 use std::marker::Model;
 
-#[cfg(test)]
-mod tests;
-
 /// A document: a tree of elements and texts, each with an id of its own. An id is never given again.
 ///
 /// Nodes are kept in slots that name each other; the slot of a removed node is taken again.
