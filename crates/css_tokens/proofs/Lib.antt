@@ -11,5 +11,6 @@ pub mod PartSteps
 pub mod CommentSteps
 pub mod UrlNames
 pub mod PieceEnds
+pub mod PunctuationPieces
 pub mod FoundPieces
 pub mod LeftSteps

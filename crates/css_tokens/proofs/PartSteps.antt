@@ -1,11 +1,11 @@
 -- Parts in front of a text, one after another.
-use Rattle.std.proofs.Common.{◌≡◌, ◌∙◌, sym, ap, refl, subst, ℕ, zero, suc, pred, ◌<◌, ◌≤◌, ◌||◌, ◌&&◌, not, List, [], ◌∷◌, ◌++◌, length, map, drop, drop-drop, length-drop, length-append, append_assoc, append-nil, Option, Some, None, true, false, arith, inl, inr}
+use Rattle.std.proofs.Common.{◌≡◌, ◌∙◌, sym, ap, refl, subst, ℕ, zero, suc, pred, ◌<◌, ◌≤◌, ◌==◌, ◌||◌, ◌&&◌, not, Bool, List, [], ◌∷◌, ◌++◌, length, map, drop, drop-drop, length-drop, length-append, append_assoc, append-nil, Option, Some, None, true, false, eqb-true, arith, inl, inr}
 use Rattle.std.proofs.lemmas.Bool.{cases_Bool}
 use Rattle.std.proofs.lemmas.Bool.Decides.{nat_tests}
 use Rattle.std.specs.Prelude.{unwrap_or, option_map, is_some}
 use Rattle.css_model.specs.declared.place.Place.{Place}
 use Rattle.css_model.specs.declared.place.Place.TheVariants.{InName, InString, InUrl, InBadUrl}
-use Rattle.css_model.specs.Classes.{Text, begins, is_empty}
+use Rattle.css_model.specs.Classes.{Text, begins, is_empty, hyphen, backslash, is_digit, is_ident_start, is_ident_char}
 use Rattle.css_model.specs.Parts.{Part, itself, escaped, hex_escape, escaped_newline, escape_at_end, part_text, parts_text, is_allowed, may_stand, meaning, meanings, starts_name, is_hyphen, follows_hyphen, would_start_ident}
 use Rattle.css_model.specs.inner.Fronts.{escape_in, part_in, parts_in, run_in, after_parts}
 use Rattle.css_model.proofs.PartLemmas.{parts_in-cons, parts_in-stop, parts_in-nil}
@@ -127,6 +127,36 @@ follows-some cs p e = ap follows_hyphen (front-some InName cs p e)
 
 pub follows-none : (cs : Text) → front_part InName cs ≡ None → follows_hyphen (parts_in InName cs) ≡ false
 follows-none cs e = ap follows_hyphen (front-none InName cs e)
+
+pub unequal : (a b : ℕ) → (a ≡ b → ⊥) → (a == b) ≡ false
+unequal a b n = elim (cases_Bool (a == b)) [
+  | inl t ↦ absurd (n (eqb-true a b t))
+  | inr f ↦ f
+]
+
+or-false : (b : Bool) → (b || false) ≡ b
+or-false true = refl
+or-false false = refl
+
+or-left : (a b : Bool) → (a || b) ≡ false → a ≡ false
+or-left true b e = e
+or-left false b e = refl
+
+-- what is no `-` and no backslash starts an identifier by itself or not at all
+pub start-other : (c : ℕ) (cs : Text) → (c == hyphen) ≡ false → (c == backslash) ≡ false → is_ident_start c ≡ would_start_ident (parts_in InName (c ∷ cs))
+start-other c cs h b =
+    let here : part_in c cs ≡ itself c = pick-false (c == backslash) (escape_in cs) (itself c) b in
+    elim (cases_Bool (is_ident_char c)) [
+      | inl t ↦
+          let parts : parts_in InName (c ∷ cs) ≡ part_in c cs ∷ parts_in InName (drop (pred (length (part_text (part_in c cs)))) cs) =
+          parts_in-cons InName c cs (ap (may_stand InName) here ∙ t) in
+          let rest : List Part = parts_in InName (drop (pred (length (part_text (part_in c cs)))) cs) in
+          sym (ap would_start_ident parts ∙ (ap (λ p. starts_name p || (is_hyphen p && follows_hyphen rest)) here
+          ∙ (ap (λ x. is_ident_start c || (x && follows_hyphen rest)) h ∙ or-false (is_ident_start c))))
+      | inr f ↦
+          let none : parts_in InName (c ∷ cs) ≡ [] = parts_in-stop InName c cs (ap (may_stand InName) here ∙ f) in
+          or-left (is_ident_start c) (is_digit c || (c == hyphen)) f ∙ sym (ap would_start_ident none)
+    ]
 
 -- ---- code points that are parts by themselves
 

@@ -3,6 +3,7 @@ ghost use Rattle.std.specs.Prelude.{◌≡◌, ◌∷◌, IfOk};
 ghost use Rattle.std.specs.Str.{chars};
 ghost use Rattle.css_model.specs.declared.place.Place.TheVariants.{InName};
 ghost use Rattle.css_model.specs.Classes.{number_sign};
+ghost use Rattle.css_model.specs.Spellings.{single_of};
 ghost use Rattle.css_model.specs.inner.Fronts.{parts_in};
 ghost use Rattle.css_model.specs.inner.Pieces as model;
 ghost use Rattle.css_tokens.specs.inner.Found.{IsFound};
@@ -32,6 +33,8 @@ pub fn first_piece<'a>(
 {
     if is_whitespace(c) {
         Ok(Piece::token(TokenType::Whitespace, after_white(text)))
+    } else if let Some(token_type) = punctuation(c) {
+        Ok(Piece::token(token_type, rest))
     } else if is_quote(c) {
         consume_string(alloc, c, rest)
     } else if let Some(inside) = after_front(b"/*", text) {
@@ -100,16 +103,26 @@ fn hash_piece<'a>(alloc: Global, rest: &'a str) -> Result<Piece<'a>, NoMemory>
 fn single_type(c: char) -> TokenType
     ensures { result ≡ model.single_type c }
 {
+    match punctuation(c) {
+        Some(token_type) => token_type,
+        None => TokenType::Delim(c),
+    }
+}
+
+/// The type of `c` alone, if it is a token of its own type wherever it stands.
+fn punctuation(c: char) -> Option<TokenType>
+    ensures { result ≡ single_of c }
+{
     match c {
-        ':' => TokenType::Colon,
-        ';' => TokenType::Semicolon,
-        ',' => TokenType::Comma,
-        '(' => TokenType::Opening(Bracket::Round),
-        ')' => TokenType::Closing(Bracket::Round),
-        '[' => TokenType::Opening(Bracket::Square),
-        ']' => TokenType::Closing(Bracket::Square),
-        '{' => TokenType::Opening(Bracket::Curly),
-        '}' => TokenType::Closing(Bracket::Curly),
-        _ => TokenType::Delim(c),
+        ':' => Some(TokenType::Colon),
+        ';' => Some(TokenType::Semicolon),
+        ',' => Some(TokenType::Comma),
+        '(' => Some(TokenType::Opening(Bracket::Round)),
+        ')' => Some(TokenType::Closing(Bracket::Round)),
+        '[' => Some(TokenType::Opening(Bracket::Square)),
+        ']' => Some(TokenType::Closing(Bracket::Square)),
+        '{' => Some(TokenType::Opening(Bracket::Curly)),
+        '}' => Some(TokenType::Closing(Bracket::Curly)),
+        _ => None,
     }
 }

@@ -12,6 +12,7 @@ ghost use Rattle.css_model.specs.inner.Fronts.{parts_in, run_in};
 ghost use Rattle.css_tokens.specs.inner.Parts as spec;
 ghost use Rattle.css_tokens.specs.inner.Parts.{part_view, is_backslash, HasAsciiQuote};
 
+use crate::classes::is_ident_start;
 use crate::escapes::{Part, is_allowed, part_at};
 use crate::runs::first;
 use css_model::Place;
@@ -132,6 +133,22 @@ pub fn begins_part(place: Place, cs: &str) -> bool
 
 /// Whether the parts of a name in front of `cs` would start an identifier (section 4.3.9).
 pub fn would_start_ident(cs: &str) -> bool
+    ensures { result ≡ model.would_start_ident (parts_in InName (chars cs.now)) }
+{
+    match first(cs) {
+        Some((c, _)) => {
+            if c == '-' || c == '\\' {
+                parts_start_ident(cs)
+            } else {
+                is_ident_start(c)
+            }
+        }
+        None => false,
+    }
+}
+
+/// The same, read part by part.
+fn parts_start_ident(cs: &str) -> bool
     ensures { result ≡ model.would_start_ident (parts_in InName (chars cs.now)) }
 {
     match front_part(Place::InName, cs) {
