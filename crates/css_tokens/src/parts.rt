@@ -57,7 +57,13 @@ fn plain_parts<'a>(place: Place, cs: &'a str) -> (&'a str, &'a str)
 fn plain_length(place: Place, bytes: &[u8]) -> usize
     ensures { result ≡ prefix_len (spec.is_plain place) bytes.now }
 {
-    bytes.iter().take_while(|b| is_plain(place, **b)).count()
+    match place {
+        Place::InName => bytes
+            .iter()
+            .take_while(|b| is_plain(Place::InName, **b))
+            .count(),
+        _ => bytes.iter().take_while(|b| is_plain(place, **b)).count(),
+    }
 }
 
 fn is_plain(place: Place, b: u8) -> bool
