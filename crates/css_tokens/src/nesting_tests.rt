@@ -2,6 +2,7 @@
 use crate::{Component, Token, TokenFault, components, tokenize};
 use port_core::NoMemory;
 use std::alloc::Global;
+use std::process::Abort;
 use std::test::Fail;
 
 /// Spells components: a block between `<` and `>`, a function between `/` and `/`, and `_` for a
@@ -36,31 +37,42 @@ fn spell_close(close: &Option<Token>, spelled: &mut String) -> Result<(), NoMemo
     }
 }
 
+/// Texts with their component values.
+const NESTED: &str = r#"a,b => a,b
+) => )
+a]b => a]b
+(] => <(]_>
+(]) => <(])>
+([)] => <(<[)]>_>
+f( => /f(_/
+f(] => /f(]_/
+f() => /f()/
+() => <()>
+[({})] => <[<(<{}>)>]>
+f(a,(b)c => /f(a,<(b)>c_/
+f(g(]/**/)h => /f(/g(])/h_/
+url(a)( => url(a)<(_>
+a (b)c[d]}e => a <(b)>c<[d]>}e"#;
+
+/// Checks a row: a text, ` => ` and its component values.
+fn check_row(alloc: Global, rt: &impl Abort, row: &str) -> Result<(), Fail> {
+    let Some((text, want)) = row.split_once(" => ") else {
+        panic!(rt; "no components in {row}");
+    };
+    let components = components(alloc, &tokenize(alloc, text)?)?;
+    let mut spelled = String::new(alloc);
+    spell(components.as_slice(), &mut spelled)?;
+    assert_eq!(rt; spelled.as_str(), want, "at {row}");
+    Ok(())
+}
+
 #[test]
 fn brackets_are_nested(rt: HostRuntime) -> Result<(), Fail> {
-    for (text, want) in [
-        ("", ""),
-        ("a,b", "a,b"),
-        (")", ")"),
-        ("a]b", "a]b"),
-        ("(]", "<(]_>"),
-        ("(])", "<(])>"),
-        ("([)]", "<(<[)]>_>"),
-        ("f(", "/f(_/"),
-        ("f(]", "/f(]_/"),
-        ("f()", "/f()/"),
-        ("()", "<()>"),
-        ("[({})]", "<[<(<{}>)>]>"),
-        ("f(a,(b)c", "/f(a,<(b)>c_/"),
-        ("f(g(]/**/)h", "/f(/g(])/h_/"),
-        ("url(a)(", "url(a)<(_>"),
-        ("a (b)c[d]}e", "a <(b)>c<[d]>}e"),
-    ] {
-        let components = components(rt.alloc(), &tokenize(rt.alloc(), text)?)?;
-        let mut spelled = String::new(rt.alloc());
-        spell(components.as_slice(), &mut spelled)?;
-        assert_eq!(rt; spelled.as_str(), want, "at {text}");
+    for row in NESTED.lines() {
+        check_row(rt.alloc(), &rt, row)?;
     }
+    let none = components(rt.alloc(), &tokenize(rt.alloc(), "")?)?;
+    assert!(rt; none.is_empty());
     Ok(())
 }
 
