@@ -98,11 +98,11 @@ fn push_quoted(spelled: &mut String, content: &str) -> Result<(), NoMemory> {
 }
 
 fn push_children(spelled: &mut String, doc: &Doc, id: NodeId) -> Result<(), NoMemory> {
-    let mut separator = "";
     for child in doc.children(id) {
-        spelled.push_str(separator)?;
+        if doc.prev(child).is_some() {
+            spelled.push(' ')?;
+        }
         push_id(spelled, child)?;
-        separator = " ";
     }
     Ok(())
 }
