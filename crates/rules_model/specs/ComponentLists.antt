@@ -1,5 +1,5 @@
 -- What rules and declarations ask of component values, and parts of lists of them.
-use Rattle.std.specs.Prelude.{ℕ, ◌==◌, ◌&&◌, if◌then◌else◌, Option, Some, None, Bool, true, false}
+use Rattle.std.specs.Prelude.{◌&&◌, if◌then◌else◌, Option, Some, None, Bool, true, false}
 use Rattle.css_model.specs.declared.token.Bracket.TheVariants.{Curly}
 use Rattle.css_model.specs.declared.token.TokenType.{TokenType}
 use Rattle.css_model.specs.declared.token.TokenType.TheVariants.{Ident, AtKeyword, Whitespace, Cdo, Cdc, Colon, Semicolon, Opening}

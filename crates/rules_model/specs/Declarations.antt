@@ -1,6 +1,6 @@
 -- Declarations: the lists in style blocks and `style` attributes (CSS Syntax 3, sections 5.4.2 and
 -- 5.4.4 to 5.4.6).
-use Rattle.std.specs.Prelude.{ℕ, ◌==◌, ◌&&◌, ◌||◌, if◌then◌else◌, List, [], ◌∷◌, codes, Option, Some, None, Bool, true, false}
+use Rattle.std.specs.Prelude.{◌==◌, ◌&&◌, ◌||◌, if◌then◌else◌, List, [], ◌∷◌, codes, Option, Some, None, Bool, false}
 use Rattle.std.specs.Option.{is_some}
 use Rattle.std.specs.Str.{str_eq_ignore_ascii_case}
 use Rattle.css_model.specs.declared.token.TokenType.{TokenType}

@@ -1,7 +1,12 @@
 //! Rules (CSS Syntax 3, sections 5.4.1 to 5.4.3).
+ghost use Rattle.css_model.specs.Components.{component, no_components, preserved, simple_block};
+ghost use Rattle.css_model.specs.TokenList.{token_at};
+ghost use Rattle.css_model.specs.declared.token.Bracket.TheVariants.{Round};
+ghost use Rattle.css_model.specs.declared.token.TokenType.TheVariants.{Closing, Delim, Ident, Opening};
+ghost use Rattle.rules_model.specs.Sheets.{style_rules_of};
 ghost use Rattle.rules_model.specs.declared.conditional_rule.ConditionalRule.TheVariants.{Media, Container};
 ghost use Rattle.rules_model.specs.inner.Examples.{conditions, preludes, printed_preludes, sheet};
-ghost use Rattle.std.specs.Prelude.{◌≡◌, ◌∷◌, [], codes, true, false};
+ghost use Rattle.std.specs.Prelude.{◌≡◌, ◌∷◌, [], Some, codes, true, false};
 
 /// A qualified rule goes up to its first `{}` block; without one it is dropped.
 #[tactic(auto, unfolding(css_model::specs::inner::Nesting::levels_of, css_model::specs::inner::Pieces::pieces_after, css_model::specs::inner::Fronts::parts_after))]
@@ -153,4 +158,24 @@ pub fn whole()
         ∷ [] }
     ensures preludes { printed_preludes (codes "/*x*/ a , b{c:d;e}{f:g!important}}h{i:j")
         ≡ codes "a , b" ∷ [] ∷ codes "}h" ∷ [] }
+{}
+
+/// A rule has the component values themselves.
+#[tactic(auto, unfolding(css_model::specs::inner::Nesting::levels_of, css_model::specs::inner::Pieces::pieces_after, css_model::specs::inner::Fronts::parts_after))]
+pub fn structure()
+    ensures { style_rules_of (codes "@media x{a{b:(!)!important}}")
+        ≡ record {
+          prelude = component (preserved (token_at 9 (Ident (codes "a")) (codes "a"))) no_components;
+          conditions = record {
+            at_rule = Media;
+            prelude = component (preserved (token_at 7 (Ident (codes "x")) (codes "x"))) no_components;
+          } ∷ [];
+          declarations = record {
+            name = codes "b";
+            value = component (simple_block (token_at 13 (Opening Round) (codes "("))
+                (component (preserved (token_at 14 (Delim 33) (codes "!"))) no_components)
+                (Some (token_at 15 (Closing Round) (codes ")")))) no_components;
+            important = true;
+          } ∷ [];
+        } ∷ [] }
 {}

@@ -39,12 +39,17 @@ pub fn sizes()
     ensures empty { size_of_sheet [] ≡ record { bytes = 0; levels = 0; rules = 0 } }
     ensures rules { size_of_sheet (codes "p{}q{a:(b)}@foo{r{}}s") ≡ record { bytes = 21; levels = 2; rules = 2 } }
     ensures in_a_block { size_of_sheet (codes "@media x{p{}q{}}") ≡ record { bytes = 16; levels = 2; rules = 2 } }
-    ensures bytes_of_code_points { size_of_sheet (127 ∷ 128 ∷ 2047 ∷ 2048 ∷ 65535 ∷ 65536 ∷ [])
-        ≡ record { bytes = 15; levels = 0; rules = 0 } }
     ensures before_preprocessing { size_of_sheet (13 ∷ 10 ∷ 0 ∷ []) ≡ record { bytes = 3; levels = 0; rules = 0 } }
     ensures at_the_limit { limit_of_sheet (repeat 64 (codes "{")) ≡ None }
     ensures past_the_limit { limit_of_sheet (repeat 65 (codes "{")) ≡ Some TooDeep }
     ensures in_what_is_dropped { limit_of_sheet (codes "@foo " ++ repeat 65 (codes "(")) ≡ Some TooDeep }
+{}
+
+/// The bytes of a sheet are those of UTF-8.
+#[tactic(auto, unfolding(std::specs::Prelude::encode_utf8, css_model::specs::inner::Nesting::levels_of, css_model::specs::inner::Pieces::pieces_after, css_model::specs::inner::Fronts::parts_after))]
+pub fn bytes()
+    ensures of_code_points { size_of_sheet (127 ∷ 128 ∷ 2047 ∷ 2048 ∷ 65535 ∷ 65536 ∷ [])
+        ≡ record { bytes = 15; levels = 0; rules = 0 } }
 {}
 
 /// A `style` attribute is a list of declarations; one that nests too deep has none.
