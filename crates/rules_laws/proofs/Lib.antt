@@ -1,0 +1,6 @@
+pub mod Apart
+pub mod Lists
+pub mod RulesOfItems
+pub mod RuleListOf
+pub mod DroppedRules
+pub mod ConditionsAround
