@@ -4,3 +4,5 @@ pub mod RulesOfItems
 pub mod RuleListOf
 pub mod DroppedRules
 pub mod ConditionsAround
+pub mod DeclarationsOfItems
+pub mod DeclarationListOf

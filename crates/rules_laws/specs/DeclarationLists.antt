@@ -27,8 +27,8 @@ items_components (i ∷ items) = followed (item_components i) (items_components 
 -- a declaration or what stands in its place: it begins, and there is no `;` in it
 abbrev pub IsPiece : Components → Type 0
 IsPiece no_components = ⊥
-IsPiece (component c cs) = (is_between_declarations c ≡ false) × ((is_some (at_keyword_of c) ≡ false)
-    × NonePass is_semicolon (component c cs))
+IsPiece (component c cs) = (is_between_declarations c ≡ false) × (is_some (at_keyword_of c) ≡ false)
+    × NonePass is_semicolon (component c cs)
 
 abbrev pub IsItem : DeclarationItem → Type 0
 IsItem (between_declarations c) = is_between_declarations c ≡ true
@@ -46,3 +46,32 @@ item_declarations other = []
 
 abbrev pub items_declarations : List DeclarationItem → List Declaration
 items_declarations items = flat_map item_declarations items
+
+-- what is left where the list ends: nothing, an at-rule without its end, or a piece without its `;`
+pub data DeclarationRest : Type 0 where
+  nothing : DeclarationRest
+  open_at_rule : (keyword : Component) (prelude : Components) → DeclarationRest
+  last : (piece : Components) → DeclarationRest
+
+abbrev pub rest_components : DeclarationRest → Components
+rest_components nothing = no_components
+rest_components (open_at_rule keyword prelude) = component keyword prelude
+rest_components (last piece) = piece
+
+abbrev pub IsRest : DeclarationRest → Type 0
+IsRest nothing = Unit {0}
+IsRest (open_at_rule keyword prelude) = BeginsAtRule keyword prelude
+IsRest (last piece) = IsPiece piece
+
+-- the declaration of what is left, if it is one
+abbrev pub rest_declarations : DeclarationRest → List Declaration
+rest_declarations (last piece) = with_declaration (declaration_of piece) []
+rest_declarations other = []
+
+-- a list of declarations and at-rules: items, and what is left
+pub record IsDeclarationList (cs : Components) : Type 0 where
+  pub items : List DeclarationItem
+  pub rest : DeclarationRest
+  pub joined : cs ≡ followed (items_components items) (rest_components rest)
+  pub are_items : AreItems items
+  pub is_rest : IsRest rest

@@ -1,0 +1,45 @@
+//! Laws of lists of declarations and at-rules (CSS Syntax 3, sections 5.4.4 to 5.4.6).
+ghost use Rattle.css_model.specs.Components.{Component, Components, component};
+ghost use Rattle.css_model.specs.inner.Nesting.{followed};
+ghost use Rattle.rules_laws.specs.DeclarationLists.{AreItems, DeclarationItem, DeclarationRest, IsDeclarationList, IsPiece, IsRest, items_components, items_declarations, rest_components, rest_declarations};
+ghost use Rattle.rules_laws.specs.RuleLists.{BeginsAtRule};
+ghost use Rattle.rules_model.specs.ComponentLists.{is_semicolon};
+ghost use Rattle.rules_model.specs.Declarations.{declaration_of, declarations_of, ends_at_rule};
+ghost use Rattle.std.specs.Prelude.{◌≡◌, ◌++◌, List, None, true};
+
+/// Each list of component values is a list of declarations and at-rules: pieces with their `;`, whole
+/// at-rules, what is passed over between them, and perhaps one that is not whole.
+pub fn exist()
+    ensures { (cs : Components) → IsDeclarationList cs }
+{}
+
+/// The declarations of a list are those of each whole piece, in their order, and of what is left.
+pub fn of_items()
+    ensures { (items : List DeclarationItem) (rest : DeclarationRest) → AreItems items → IsRest rest
+        → declarations_of (followed (items_components items) (rest_components rest))
+        ≡ items_declarations items ++ rest_declarations rest }
+{}
+
+/// The declarations of two lists, where the first ends with a `;` or a whole at-rule, are those of the
+/// first and then those of the second.
+pub fn joined()
+    ensures { (items : List DeclarationItem) (rest : Components) → AreItems items
+        → declarations_of (followed (items_components items) rest)
+        ≡ declarations_of (items_components items) ++ declarations_of rest }
+{}
+
+/// What is no declaration, with its `;`, put where a declaration would begin, changes nothing.
+pub fn bad_declaration()
+    ensures { (items : List DeclarationItem) (piece : Components) (semicolon : Component) (rest : Components)
+        → AreItems items → IsPiece piece → is_semicolon semicolon ≡ true → declaration_of piece ≡ None
+        → declarations_of (followed (items_components items) (followed piece (component semicolon rest)))
+        ≡ declarations_of (followed (items_components items) rest) }
+{}
+
+/// An at-rule, put where a declaration would begin, changes nothing.
+pub fn at_rule()
+    ensures { (items : List DeclarationItem) (keyword : Component) (prelude : Components) (end : Component)
+        (rest : Components) → AreItems items → BeginsAtRule keyword prelude → ends_at_rule end ≡ true
+        → declarations_of (followed (items_components items) (component keyword (followed prelude (component end rest))))
+        ≡ declarations_of (followed (items_components items) rest) }
+{}
