@@ -6,3 +6,5 @@ pub mod DroppedRules
 pub mod ConditionsAround
 pub mod DeclarationsOfItems
 pub mod DeclarationListOf
+pub mod Trimmed
+pub mod Declared

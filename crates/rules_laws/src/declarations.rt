@@ -3,9 +3,17 @@ ghost use Rattle.css_model.specs.Components.{Component, Components, component};
 ghost use Rattle.css_model.specs.inner.Nesting.{followed};
 ghost use Rattle.rules_laws.specs.DeclarationLists.{AreItems, DeclarationItem, DeclarationRest, IsDeclarationList, IsPiece, IsRest, items_components, items_declarations, rest_components, rest_declarations};
 ghost use Rattle.rules_laws.specs.RuleLists.{BeginsAtRule};
+ghost use Rattle.rules_laws.specs.Values.{IsDeclaration};
 ghost use Rattle.rules_model.specs.ComponentLists.{is_semicolon};
-ghost use Rattle.rules_model.specs.Declarations.{declaration_of, declarations_of, ends_at_rule};
-ghost use Rattle.std.specs.Prelude.{◌≡◌, ◌++◌, List, None, true};
+ghost use Rattle.rules_model.specs.Declarations.{Declaration, declaration_of, declarations_of, ends_at_rule};
+ghost use Rattle.std.specs.Prelude.{◌≡◌, ◌↔◌, ◌++◌, List, None, Some, true};
+
+/// A piece is a declaration exactly where it is an identifier, perhaps white space, `:` and a value,
+/// which is important where `!` and `important` end it.
+pub fn form()
+    ensures { (piece : Components) (d : Declaration) →
+        IsDeclaration piece d ↔ (declaration_of piece ≡ Some d) }
+{}
 
 /// Each list of component values is a list of declarations and at-rules: pieces with their `;`, whole
 /// at-rules, what is passed over between them, and perhaps one that is not whole.

@@ -5,4 +5,5 @@
 
 pub mod conditions;
 pub mod declarations;
+pub mod parts;
 pub mod rules;
