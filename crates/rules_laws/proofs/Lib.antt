@@ -8,3 +8,5 @@ pub mod DeclarationsOfItems
 pub mod DeclarationListOf
 pub mod Trimmed
 pub mod Declared
+pub mod InOrder
+pub mod SheetTexts

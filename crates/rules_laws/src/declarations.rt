@@ -1,7 +1,8 @@
 //! Laws of lists of declarations and at-rules (CSS Syntax 3, sections 5.4.4 to 5.4.6).
-ghost use Rattle.css_model.specs.Components.{Component, Components, component};
+ghost use Rattle.css_model.specs.Components.{Component, Components, all_tokens_of, component};
 ghost use Rattle.css_model.specs.inner.Nesting.{followed};
 ghost use Rattle.rules_laws.specs.DeclarationLists.{AreItems, DeclarationItem, DeclarationRest, IsDeclarationList, IsPiece, IsRest, items_components, items_declarations, rest_components, rest_declarations};
+ghost use Rattle.rules_laws.specs.Order.{IsSublist, declared_tokens};
 ghost use Rattle.rules_laws.specs.RuleLists.{BeginsAtRule};
 ghost use Rattle.rules_laws.specs.Values.{IsDeclaration};
 ghost use Rattle.rules_model.specs.ComponentLists.{is_semicolon};
@@ -50,4 +51,9 @@ pub fn at_rule()
         (rest : Components) → AreItems items → BeginsAtRule keyword prelude → ends_at_rule end ≡ true
         → declarations_of (followed (items_components items) (component keyword (followed prelude (component end rest))))
         ≡ declarations_of (followed (items_components items) rest) }
+{}
+
+/// The tokens of the values stand in the list, in the order of the declarations.
+pub fn in_order()
+    ensures { (cs : Components) → IsSublist (declared_tokens (declarations_of cs)) (all_tokens_of cs) }
 {}

@@ -7,3 +7,4 @@ pub mod conditions;
 pub mod declarations;
 pub mod parts;
 pub mod rules;
+pub mod sheets;

@@ -1,6 +1,7 @@
 //! Laws of lists of rules (CSS Syntax 3, sections 5.4.1 to 5.4.3).
-ghost use Rattle.css_model.specs.Components.{Component, Components, component};
+ghost use Rattle.css_model.specs.Components.{Component, Components, all_tokens_of, component};
 ghost use Rattle.css_model.specs.inner.Nesting.{followed};
+ghost use Rattle.rules_laws.specs.Order.{IsSublist, rule_tokens};
 ghost use Rattle.rules_laws.specs.RuleLists.{AreItems, BeginsAtRule, IsRuleList, IsUnended, RuleItem, items_components, items_rules};
 ghost use Rattle.rules_model.specs.ComponentLists.{at_keyword_of, is_semicolon};
 ghost use Rattle.rules_model.specs.Declarations.{ends_at_rule};
@@ -52,4 +53,10 @@ pub fn at_rule_without_block()
         → BeginsAtRule keyword prelude → is_semicolon end ≡ true
         → rules_in around (followed (items_components items) (component keyword (followed prelude (component end rest))))
         ≡ rules_in around (followed (items_components items) rest) }
+{}
+
+/// The tokens of preludes and of the values of declarations stand in the list, in the order of the rules.
+pub fn in_order()
+    ensures { (around : List Condition) (cs : Components) →
+        IsSublist (rule_tokens (rules_in around cs)) (all_tokens_of cs) }
 {}
