@@ -1,5 +1,5 @@
 -- Component values of one kind are none of another.
-use Rattle.std.proofs.Common.{◌≡◌, refl, Option, Some, None, true, false, ◌&&◌, ◌||◌}
+use Rattle.std.proofs.Common.{◌≡◌, refl, true, false}
 use Rattle.std.specs.Option.{is_some}
 use Rattle.css_model.specs.declared.token.TokenType.{TokenType}
 use Rattle.css_model.specs.declared.token.TokenType.TheVariants.{AtKeyword}

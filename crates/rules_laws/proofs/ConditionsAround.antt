@@ -1,13 +1,12 @@
 -- The conditions around rules.
-use Rattle.std.proofs.Common.{◌≡◌, ◌∙◌, ap, sym, refl, inl, inr, List, [], ◌∷◌, ◌++◌, Bool, true, false, Option, Some, None, option_map, option_and_then, append_assoc, append-nil}
+use Rattle.std.proofs.Common.{◌≡◌, ◌∙◌, ap, sym, inl, inr, List, [], ◌∷◌, ◌++◌, true, Option, Some, None, option_map, option_and_then, append_assoc, append-nil}
 use Rattle.std.proofs.lemmas.Bool.{cases_Bool}
 use Rattle.std.specs.Option.{is_some}
 use Rattle.css_model.specs.Components.{Component, preserved, simple_block, function_block, Components, no_components, component}
 use Rattle.css_model.specs.inner.Nesting.{followed}
 use Rattle.rules_model.specs.declared.conditional_rule.ConditionalRule.{ConditionalRule}
 use Rattle.css_model.specs.declared.token.Token.{Token}
-use Rattle.rules_model.specs.ComponentLists.{at_keyword_of, is_curly_block, before, trimmed}
-use Rattle.rules_model.specs.Declarations.{ends_at_rule}
+use Rattle.rules_model.specs.ComponentLists.{ends_at_rule, at_keyword_of, is_curly_block, before, trimmed}
 use Rattle.rules_model.specs.Rules.{Condition, StyleRule, conditional_rule_of, condition_of, conditions_inside, is_between_rules, style_rule, rules_in, rules_from_at_rule, rules_in_block, rules_from_prelude}
 use Rattle.rules_laws.specs.RuleLists.{BeginsAtRule, BeginWith}
 use Rattle.rules_laws.proofs.Lists.{before-all}
@@ -46,7 +45,7 @@ mutual
   begin-at_rule around condition no_components = tt
   begin-at_rule around condition (component c cs) = elim (cases_Bool (ends_at_rule c)) [
     | inl e ↦ rw e (begin-append around (rules_in_block (conditions_inside around condition) c) (rules_in around cs)
-    (begin-block around condition c) (begin-with around cs))
+        (begin-block around condition c) (begin-with around cs))
     | inr e ↦ rw e (begin-at_rule around condition cs)
   ]
 

@@ -1,14 +1,15 @@
 -- Each list of component values is a list of declarations and at-rules.
-use Rattle.std.proofs.Common.{◌≡◌, ◌∙◌, ap, sym, refl, inl, inr, ◌⊎◌, List, [], ◌∷◌, ◌||◌, Bool, true, false}
+use Rattle.std.proofs.Common.{◌≡◌, ◌∙◌, ap, sym, refl, inl, inr, [], ◌∷◌, Bool, true, false}
 use Rattle.std.proofs.lemmas.Bool.{cases_Bool}
 use Rattle.std.specs.Option.{is_some}
 use Rattle.css_model.specs.Components.{Component, Components, no_components, component}
 use Rattle.css_model.specs.inner.Nesting.{followed}
-use Rattle.rules_model.specs.ComponentLists.{at_keyword_of, is_semicolon, is_whitespace}
-use Rattle.rules_model.specs.Declarations.{ends_at_rule, is_between_declarations}
-use Rattle.rules_laws.specs.Parts.{NonePass}
-use Rattle.rules_laws.specs.DeclarationLists.{DeclarationItem, between_declarations, at_rule, ended, item_components, items_components, IsPiece, IsItem, AreItems, nothing, open_at_rule, last, rest_components, IsDeclarationList}
+use Rattle.rules_model.specs.ComponentLists.{ends_at_rule, at_keyword_of, is_semicolon, is_whitespace}
+use Rattle.rules_model.specs.Declarations.{is_between_declarations}
+use Rattle.rules_laws.specs.DeclarationLists.{DeclarationItem, between_declarations, at_rule, ended, item_components, items_components, IsItem, nothing, open_at_rule, last, rest_components, IsDeclarationList}
+use Rattle.rules_laws.proofs.Booleans.{or-right}
 use Rattle.rules_laws.proofs.Lists.{followed-followed}
+use Rattle.rules_laws.proofs.Splits.{Split, split-here, split-later}
 
 -- an item in front of a list
 with-item : (i : DeclarationItem) (cs more : Components) → IsItem i
@@ -17,51 +18,13 @@ with-item i cs more is j l = record {
   items = i ∷ l.items;
   rest = l.rest;
   joined = j ∙ (ap (followed (item_components i)) l.joined
-  ∙ sym (followed-followed (item_components i) (items_components l.items) (rest_components l.rest)));
+      ∙ sym (followed-followed (item_components i) (items_components l.items) (rest_components l.rest)));
   are_items = (is, l.are_items);
   is_rest = l.is_rest;
 }
 
--- a list in which no component passes, or one up to the first that passes and a list of declarations after it
-pub record IsSplit (test : Component → Bool) (cs : Components) : Type 0 where
-  pub part : Components
-  pub end : Component
-  pub more : Components
-  pub joined : cs ≡ followed part (component end more)
-  pub none_pass : NonePass test part
-  pub passes : test end ≡ true
-  pub declarations : IsDeclarationList more
-
-abbrev pub Split : (Component → Bool) → Components → Type 0
-Split test cs = NonePass test cs ⊎ IsSplit test cs
-
-split-here : (test : Component → Bool) (c : Component) (cs : Components)
-    → test c ≡ true → IsDeclarationList cs → Split test (component c cs)
-split-here test c cs e l = inr (record {
-  part = no_components;
-  end = c;
-  more = cs;
-  joined = refl;
-  none_pass = tt;
-  passes = e;
-  declarations = l;
-})
-
-split-later : (test : Component → Bool) (c : Component) (cs : Components)
-    → test c ≡ false → Split test cs → Split test (component c cs)
-split-later test c cs e (inl n) = inl (e, n)
-split-later test c cs e (inr s) = inr (record {
-  part = component c s.part;
-  end = s.end;
-  more = s.more;
-  joined = ap (component c) s.joined;
-  none_pass = (e, s.none_pass);
-  passes = s.passes;
-  declarations = s.declarations;
-})
-
 list-at_rule : (c : Component) (cs : Components) → is_some (at_keyword_of c) ≡ true
-    → Split ends_at_rule cs → IsDeclarationList (component c cs)
+    → Split IsDeclarationList ends_at_rule cs → IsDeclarationList (component c cs)
 list-at_rule c cs k (inl n) = record {
   items = [];
   rest = open_at_rule c cs;
@@ -73,11 +36,11 @@ list-at_rule c cs k (inr s) =
     with-item (at_rule c s.part s.end) (component c cs) s.more
     (record { is_keyword = k; no_end = s.none_pass }, s.passes)
     (ap (component c) (s.joined ∙ sym (followed-followed s.part (component s.end no_components) s.more)))
-    s.declarations
+    s.holds
 
 list-piece : (c : Component) (cs : Components) → is_between_declarations c ≡ false
     → is_some (at_keyword_of c) ≡ false → is_semicolon c ≡ false
-    → Split is_semicolon cs → IsDeclarationList (component c cs)
+    → Split IsDeclarationList is_semicolon cs → IsDeclarationList (component c cs)
 list-piece c cs b k e (inl n) = record {
   items = [];
   rest = last (component c cs);
@@ -89,11 +52,7 @@ list-piece c cs b k e (inr s) =
     with-item (ended (component c s.part) s.end) (component c cs) s.more
     ((b, k, (e, s.none_pass)), s.passes)
     (ap (component c) (s.joined ∙ sym (followed-followed s.part (component s.end no_components) s.more)))
-    s.declarations
-
-or-right : (b c : Bool) → b || c ≡ false → c ≡ false
-or-right true c e = cc
-or-right false c e = e
+    s.holds
 
 mutual
   pub list-of : (cs : Components) → IsDeclarationList cs
@@ -112,9 +71,9 @@ mutual
     ]
   ]
 
-  split-of : (test : Component → Bool) (cs : Components) → Split test cs
+  split-of : (test : Component → Bool) (cs : Components) → Split IsDeclarationList test cs
   split-of test no_components = inl tt
   split-of test (component c cs) = elim (cases_Bool (test c)) [
-    | inl e ↦ split-here test c cs e (list-of cs)
-    | inr e ↦ split-later test c cs e (split-of test cs)
+    | inl e ↦ split-here IsDeclarationList test c cs e (list-of cs)
+    | inr e ↦ split-later IsDeclarationList test c cs e (split-of test cs)
   ]

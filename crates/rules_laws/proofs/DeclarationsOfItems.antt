@@ -1,10 +1,10 @@
 -- The declarations of the items of a list, one after another.
-use Rattle.std.proofs.Common.{◌≡◌, ◌∙◌, ap, sym, refl, inl, inr, ◌⊎◌, List, [], ◌∷◌, ◌++◌, ◌||◌, Bool, true, false, Option, Some, None, append_assoc, append-nil}
+use Rattle.std.proofs.Common.{◌≡◌, ◌∙◌, ap, sym, refl, List, [], ◌∷◌, ◌++◌, true, false, Option, Some, None, append_assoc, append-nil}
 use Rattle.std.specs.Option.{is_some}
 use Rattle.css_model.specs.Components.{Component, Components, no_components, component}
 use Rattle.css_model.specs.inner.Nesting.{followed}
-use Rattle.rules_model.specs.ComponentLists.{is_whitespace, is_semicolon, at_keyword_of, before}
-use Rattle.rules_model.specs.Declarations.{Declaration, declaration_of, ends_at_rule, is_between_declarations, with_declaration, declarations_of, declarations_after_at_rule, declarations_after_semicolon}
+use Rattle.rules_model.specs.ComponentLists.{ends_at_rule, is_semicolon, at_keyword_of}
+use Rattle.rules_model.specs.Declarations.{Declaration, declaration_of, is_between_declarations, with_declaration, declarations_of, declarations_after_at_rule, declarations_after_semicolon}
 use Rattle.rules_laws.specs.Parts.{NonePass}
 use Rattle.rules_laws.specs.RuleLists.{BeginsAtRule}
 use Rattle.rules_laws.specs.DeclarationLists.{DeclarationItem, between_declarations, at_rule, ended, item_components, items_components, IsPiece, IsItem, AreItems, item_declarations, items_declarations, DeclarationRest, nothing, open_at_rule, last, rest_components, IsRest, rest_declarations}

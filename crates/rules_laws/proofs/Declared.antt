@@ -1,5 +1,5 @@
 -- A piece is a declaration by its form exactly where it is found to be one.
-use Rattle.std.proofs.Common.{◌≡◌, ◌∙◌, ap, sym, refl, subst, inl, inr, ◌⊎◌, ◌&&◌, ◌||◌, ◌↔◌, if◌then◌else◌, Bool, true, false, Option, Some, None}
+use Rattle.std.proofs.Common.{◌≡◌, ◌∙◌, ap, sym, refl, subst, inl, inr, ◌&&◌, ◌↔◌, Bool, true, false, Option, Some, None}
 use Rattle.std.proofs.lemmas.Bool.{cases_Bool, false≢true}
 use Rattle.std.proofs.lemmas.Option.{none-some, same_Some}
 use Rattle.css_model.specs.declared.token.TokenType.{TokenType}
@@ -9,9 +9,9 @@ use Rattle.css_model.specs.Components.{Component, preserved, simple_block, funct
 use Rattle.css_model.specs.inner.Nesting.{followed}
 use Rattle.rules_model.specs.ComponentLists.{is_token, is_whitespace, is_whitespace_type, are_whitespace, is_colon, is_colon_type, ident_of, trimmed}
 use Rattle.rules_model.specs.Declarations.{Declaration, is_exclamation_type, is_important_type, is_important_word, is_important_mark, has_important_mark, before_important_mark, after_colon, declaration_from, declaration_of}
-use Rattle.rules_laws.specs.Parts.{IsPadded}
-use Rattle.rules_laws.specs.Values.{IsMark, IsMarked, IsValue, IsDeclaration}
-use Rattle.rules_laws.proofs.Trimmed.{and-left, and-right, trimmed-padded, padded-trimmed}
+use Rattle.rules_laws.specs.Values.{IsMark, IsValue, IsDeclaration}
+use Rattle.rules_laws.proofs.Booleans.{and-left, and-right, and-false, or-true}
+use Rattle.rules_laws.proofs.Trimmed.{trimmed-padded, padded-trimmed}
 
 -- ---- kinds
 
@@ -116,31 +116,23 @@ mark-of (component c cs) e =
 
 -- ---- where the mark is
 
-and-false : (b : Bool) → b && false ≡ false
-and-false true = refl
-and-false false = refl
-
-or-true : (b : Bool) → b || true ≡ true
-or-true true = refl
-or-true false = refl
-
 whitespace-none : (cs : Components) (bang : Component) (more : Components) → is_token is_exclamation_type bang ≡ true
     → are_whitespace (followed cs (component bang more)) ≡ false
 whitespace-none no_components bang more e = rw (exclamation-whitespace bang e) refl
-whitespace-none (component c cs) bang more e = rw (whitespace-none cs bang more e) (and-false (is_whitespace c))
+whitespace-none (component c cs) bang more e = and-false (is_whitespace c) (are_whitespace (followed cs (component bang more))) (whitespace-none cs bang more e)
 
 word-none : (cs : Components) (bang : Component) (more : Components) → is_token is_exclamation_type bang ≡ true
     → is_important_word (followed cs (component bang more)) ≡ false
 word-none no_components bang more e = rw (exclamation-whitespace bang e, exclamation-important bang e) refl
 word-none (component c cs) bang more e = elim (cases_Bool (is_whitespace c)) [
   | inl w ↦ rw w (word-none cs bang more e)
-  | inr w ↦ rw (w, whitespace-none cs bang more e) (and-false (is_token is_important_type c))
+  | inr w ↦ rw w (and-false (is_token is_important_type c) (are_whitespace (followed cs (component bang more))) (whitespace-none cs bang more e))
 ]
 
 mark-none : (c : Component) (cs : Components) (bang : Component) (more : Components)
     → is_token is_exclamation_type bang ≡ true
     → is_important_mark (component c (followed cs (component bang more))) ≡ false
-mark-none c cs bang more e = rw (word-none cs bang more e) (and-false (is_token is_exclamation_type c))
+mark-none c cs bang more e = and-false (is_token is_exclamation_type c) (is_important_word (followed cs (component bang more))) (word-none cs bang more e)
 
 before-mark : (front : Components) (bang : Component) (more : Components) → is_important_mark (component bang more) ≡ true
     → before_important_mark (followed front (component bang more)) ≡ front
@@ -214,8 +206,10 @@ value-of cs = elim (cases_Bool (has_important_mark cs)) [
     is_mark = mark-of f.mark f.is_mark;
     is_value = rw f.before_is (trimmed-padded f.front);
   })
-  | inr h ↦ rw (h, before-unmarked cs h) (trimmed-padded cs,
-  λ front mark j m. false≢true (sym h ∙ (ap has_important_mark j ∙ marked-has front mark m)))
+  | inr h ↦ rw (h, before-unmarked cs h) (
+    trimmed-padded cs,
+    λ front mark j m. false≢true (sym h ∙ (ap has_important_mark j ∙ marked-has front mark m)),
+  )
 ]
 
 value-from : (cs value : Components) (important : Bool) → value ≡ trimmed (before_important_mark cs)

@@ -1,14 +1,12 @@
 -- What adds no rule to those around it.
-use Rattle.std.proofs.Common.{◌≡◌, ◌∙◌, ap, sym, refl, inl, inr, List, [], ◌∷◌, ◌++◌, Bool, true, false, Option, Some, None, option_map, option_and_then, append-nil}
-use Rattle.css_model.specs.Components.{Component, preserved, simple_block, function_block, Components, no_components, component}
+use Rattle.std.proofs.Common.{◌≡◌, ◌∙◌, ap, sym, refl, inl, inr, List, [], ◌++◌, true, Option, Some, None, option_map, option_and_then, append-nil}
+use Rattle.css_model.specs.Components.{Component, preserved, simple_block, function_block, Components, component}
 use Rattle.css_model.specs.inner.Nesting.{followed}
 use Rattle.rules_model.specs.declared.conditional_rule.ConditionalRule.{ConditionalRule}
-use Rattle.rules_model.specs.ComponentLists.{at_keyword_of, is_semicolon, before, trimmed}
-use Rattle.rules_model.specs.Declarations.{ends_at_rule}
-use Rattle.rules_model.specs.Rules.{Condition, StyleRule, conditional_rule_of, condition_of, conditions_inside, rules_in, rules_in_block}
-use Rattle.rules_laws.specs.RuleLists.{RuleItem, items_components, BeginsAtRule, IsPrelude, IsUnended, AreItems, items_rules}
-use Rattle.rules_laws.proofs.Lists.{before-all}
-use Rattle.rules_laws.proofs.RulesOfItems.{rules-items, rules-only_items, rules-at_rule, rules-open_at_rule, rules-prelude}
+use Rattle.rules_model.specs.ComponentLists.{ends_at_rule, at_keyword_of, is_semicolon, before, trimmed}
+use Rattle.rules_model.specs.Rules.{Condition, conditional_rule_of, condition_of, conditions_inside, rules_in, rules_in_block}
+use Rattle.rules_laws.specs.RuleLists.{RuleItem, items_components, BeginsAtRule, IsUnended, AreItems, items_rules}
+use Rattle.rules_laws.proofs.RulesOfItems.{rules-items, rules-at_rule, rules-open_at_rule, rules-prelude}
 
 block-none : (c : Component) → rules_in_block None c ≡ []
 block-none (preserved t) = refl

@@ -1,17 +1,18 @@
 -- The tokens of rules and declarations stand in the order of the list.
-use Rattle.std.proofs.Common.{◌≡◌, ◌∙◌, ap, sym, refl, subst, inl, inr, ◌⊎◌, ◌||◌, List, [], ◌∷◌, ◌++◌, flat_map, if◌then◌else◌, Bool, true, false, Option, Some, None, append_assoc, append-nil}
+use Rattle.std.proofs.Common.{◌≡◌, ◌∙◌, ap, sym, refl, subst, inl, inr, List, [], ◌∷◌, ◌++◌, if◌then◌else◌, Bool, true, false, Option, Some, None, append_assoc, append-nil}
 use Rattle.std.proofs.lemmas.Bool.{cases_Bool}
 use Rattle.std.proofs.lemmas.Grind.{flat_map-append}
 use Rattle.std.specs.Option.{is_some}
 use Rattle.css_model.specs.declared.token.Token.{Token}
 use Rattle.css_model.specs.Components.{Component, preserved, simple_block, function_block, Components, no_components, component, tokens_of, all_tokens_of, close_tokens}
 use Rattle.css_model.specs.inner.Nesting.{followed}
-use Rattle.rules_model.specs.ComponentLists.{is_whitespace, is_semicolon, at_keyword_of, is_curly_block, contents_of, before, trimmed}
-use Rattle.rules_model.specs.Declarations.{Declaration, declaration_of, ends_at_rule, is_between_declarations, with_declaration, declarations_of, declarations_after_at_rule, declarations_after_semicolon}
-use Rattle.rules_model.specs.Rules.{Condition, StyleRule, condition_of, conditions_inside, is_between_rules, style_rule, rules_in, rules_from_at_rule, rules_in_block, rules_from_prelude, rules_of}
+use Rattle.rules_model.specs.ComponentLists.{ends_at_rule, is_whitespace, is_semicolon, at_keyword_of, is_curly_block, contents_of, before, trimmed}
+use Rattle.rules_model.specs.Declarations.{Declaration, declaration_of, is_between_declarations, with_declaration, declarations_of, declarations_after_at_rule, declarations_after_semicolon}
+use Rattle.rules_model.specs.Rules.{Condition, StyleRule, condition_of, conditions_inside, is_between_rules, style_rule, rules_in, rules_from_at_rule, rules_in_block, rules_from_prelude}
 use Rattle.rules_laws.specs.Parts.{IsPadded}
-use Rattle.rules_laws.specs.Values.{IsMarked, IsValue, IsDeclaration}
+use Rattle.rules_laws.specs.Values.{IsValue, IsDeclaration}
 use Rattle.rules_laws.specs.Order.{IsSublist, declared_tokens, rule_tokens}
+use Rattle.rules_laws.proofs.Booleans.{or-right}
 use Rattle.rules_laws.proofs.Trimmed.{trimmed-padded}
 use Rattle.rules_laws.proofs.Declared.{declared-of}
 
@@ -81,7 +82,7 @@ tokens-since test no_components = refl
 tokens-since test (component c cs) = elim (cases_Bool (test c)) [
   | inl e ↦ rw e refl
   | inr e ↦ rw e (append_assoc (tokens_of c) (all_tokens_of (before test cs)) (all_tokens_of (since test cs))
-  ∙ ap (λ ts. tokens_of c ++ ts) (tokens-since test cs))
+      ∙ ap (λ ts. tokens_of c ++ ts) (tokens-since test cs))
 ]
 
 order-with : (found : Option Declaration) (piece : Components) (ds : List Declaration) (ts : List Token)
@@ -90,10 +91,6 @@ order-with : (found : Option Declaration) (piece : Components) (ds : List Declar
 order-with None piece ds ts e h = sub-skip (all_tokens_of piece) (declared_tokens ds) ts h
 order-with (Some d) piece ds ts e h =
     sub-append (all_tokens_of d.value) (declared_tokens ds) (all_tokens_of piece) ts (declaration-sub piece d (declared-of piece d e)) h
-
-or-right : (b c : Bool) → b || c ≡ false → c ≡ false
-or-right true c e = cc
-or-right false c e = e
 
 piece-tokens : (c : Component) (cs : Components) → is_semicolon c ≡ false
     → all_tokens_of (before is_semicolon (component c cs)) ++ all_tokens_of (since is_semicolon cs) ≡ all_tokens_of (component c cs)
@@ -168,11 +165,11 @@ mutual
     | inl b ↦ rw b (sub-skip (tokens_of c) (rule_tokens (rules_in around cs)) (all_tokens_of cs) (order-rules around cs))
     | inr b ↦ elim (cases_Bool (is_some (at_keyword_of c))) [
       | inl k ↦ rw (b, k) (sub-skip (tokens_of c) (rule_tokens (rules_from_at_rule around (conditions_inside around (condition_of c cs)) cs)) (all_tokens_of cs)
-      (order-at_rule around (conditions_inside around (condition_of c cs)) cs))
+          (order-at_rule around (conditions_inside around (condition_of c cs)) cs))
       | inr k ↦ elim (cases_Bool (is_curly_block c)) [
         | inl e ↦ rw (b, k, e) (order-rule around no_components c (rules_in around cs) [] (all_tokens_of cs) tt (order-rules around cs))
         | inr e ↦ rw (b, k, e) (order-prelude around (component c (before is_curly_block cs)) (tokens_of c) cs
-        (padded-sub (component c (before is_curly_block cs)) (trimmed (component c (before is_curly_block cs))) (trimmed-padded (component c (before is_curly_block cs)))))
+            (padded-sub (component c (before is_curly_block cs)) (trimmed (component c (before is_curly_block cs))) (trimmed-padded (component c (before is_curly_block cs)))))
       ]
     ]
   ]
@@ -182,7 +179,7 @@ mutual
   order-at_rule around inside no_components = tt
   order-at_rule around inside (component c cs) = elim (cases_Bool (ends_at_rule c)) [
     | inl e ↦ rw e (subst (λ qs. IsSublist qs (tokens_of c ++ all_tokens_of cs)) (sym (rule_tokens-append (rules_in_block inside c) (rules_in around cs)))
-    (sub-append (rule_tokens (rules_in_block inside c)) (rule_tokens (rules_in around cs)) (tokens_of c) (all_tokens_of cs) (order-block inside c) (order-rules around cs)))
+        (sub-append (rule_tokens (rules_in_block inside c)) (rule_tokens (rules_in around cs)) (tokens_of c) (all_tokens_of cs) (order-block inside c) (order-rules around cs)))
     | inr e ↦ rw e (sub-skip (tokens_of c) (rule_tokens (rules_from_at_rule around inside cs)) (all_tokens_of cs) (order-at_rule around inside cs))
   ]
 
@@ -202,15 +199,15 @@ mutual
   order-prelude around prelude front no_components h = tt
   order-prelude around prelude front (component c cs) h = elim (cases_Bool (is_curly_block c)) [
     | inl e ↦
-      let k : IsSublist (all_tokens_of (trimmed prelude)) front =
-      subst (IsSublist (all_tokens_of (trimmed prelude)))
-      (ap (λ ds. front ++ all_tokens_of ds) (before-here is_curly_block c cs e) ∙ append-nil front) h in
-      rw e (order-rule around prelude c (rules_in around cs) front (all_tokens_of cs) k (order-rules around cs))
+        let k : IsSublist (all_tokens_of (trimmed prelude)) front =
+        subst (IsSublist (all_tokens_of (trimmed prelude)))
+        (ap (λ ds. front ++ all_tokens_of ds) (before-here is_curly_block c cs e) ∙ append-nil front) h in
+        rw e (order-rule around prelude c (rules_in around cs) front (all_tokens_of cs) k (order-rules around cs))
     | inr e ↦
-      let k : IsSublist (all_tokens_of (trimmed prelude)) ((front ++ tokens_of c) ++ all_tokens_of (before is_curly_block cs)) =
-      subst (IsSublist (all_tokens_of (trimmed prelude)))
-      (ap (λ ds. front ++ all_tokens_of ds) (before-later is_curly_block c cs e)
-      ∙ sym (append_assoc front (tokens_of c) (all_tokens_of (before is_curly_block cs)))) h in
-      rw e (subst (IsSublist (rule_tokens (rules_from_prelude around prelude cs))) (append_assoc front (tokens_of c) (all_tokens_of cs))
-      (order-prelude around prelude (front ++ tokens_of c) cs k))
+        let k : IsSublist (all_tokens_of (trimmed prelude)) ((front ++ tokens_of c) ++ all_tokens_of (before is_curly_block cs)) =
+        subst (IsSublist (all_tokens_of (trimmed prelude)))
+        (ap (λ ds. front ++ all_tokens_of ds) (before-later is_curly_block c cs e)
+        ∙ sym (append_assoc front (tokens_of c) (all_tokens_of (before is_curly_block cs)))) h in
+        rw e (subst (IsSublist (rule_tokens (rules_from_prelude around prelude cs))) (append_assoc front (tokens_of c) (all_tokens_of cs))
+        (order-prelude around prelude (front ++ tokens_of c) cs k))
   ]

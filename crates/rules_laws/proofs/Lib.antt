@@ -1,5 +1,7 @@
+pub mod Booleans
 pub mod Apart
 pub mod Lists
+pub mod Splits
 pub mod RulesOfItems
 pub mod RuleListOf
 pub mod DroppedRules

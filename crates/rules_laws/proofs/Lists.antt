@@ -1,5 +1,5 @@
 -- Joined lists of component values, and what is before the first that passes.
-use Rattle.std.proofs.Common.{◌≡◌, ap, refl, Bool, true, false}
+use Rattle.std.proofs.Common.{◌≡◌, ap, refl, Bool, true}
 use Rattle.css_model.specs.Components.{Component, Components, no_components, component}
 use Rattle.css_model.specs.inner.Nesting.{followed}
 use Rattle.rules_model.specs.ComponentLists.{before}

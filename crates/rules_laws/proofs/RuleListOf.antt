@@ -1,15 +1,14 @@
 -- Each list of component values is a list of rules.
-use Rattle.std.proofs.Common.{◌≡◌, ◌∙◌, ap, sym, refl, inl, inr, ◌⊎◌, List, [], ◌∷◌, Bool, true, false}
+use Rattle.std.proofs.Common.{◌≡◌, ◌∙◌, ap, sym, refl, inl, inr, List, [], ◌∷◌, Bool, true, false}
 use Rattle.std.proofs.lemmas.Bool.{cases_Bool}
 use Rattle.std.specs.Option.{is_some}
 use Rattle.css_model.specs.Components.{Component, Components, no_components, component}
 use Rattle.css_model.specs.inner.Nesting.{followed}
-use Rattle.rules_model.specs.ComponentLists.{at_keyword_of, is_curly_block}
-use Rattle.rules_model.specs.Declarations.{ends_at_rule}
+use Rattle.rules_model.specs.ComponentLists.{ends_at_rule, at_keyword_of, is_curly_block}
 use Rattle.rules_model.specs.Rules.{Condition, is_between_rules}
-use Rattle.rules_laws.specs.Parts.{NonePass}
-use Rattle.rules_laws.specs.RuleLists.{RuleItem, between_rules, at_rule, qualified_rule, item_components, items_components, IsPrelude, BeginsAtRule, IsItem, IsUnended, IsRuleList}
+use Rattle.rules_laws.specs.RuleLists.{RuleItem, between_rules, at_rule, qualified_rule, item_components, items_components, IsItem, IsRuleList}
 use Rattle.rules_laws.proofs.Lists.{followed-followed}
+use Rattle.rules_laws.proofs.Splits.{Split, split-here, split-later}
 
 -- an item in front of a list
 with-item : (around : List Condition) (i : RuleItem) (cs more : Components) → IsItem around i
@@ -22,47 +21,9 @@ with-item around i cs more is j l = record {
   unended = l.unended;
 }
 
--- a list in which no component passes, or one up to the first that passes and a list of rules after it
-pub record IsSplit (around : List Condition) (test : Component → Bool) (cs : Components) : Type 0 where
-  pub part : Components
-  pub end : Component
-  pub more : Components
-  pub joined : cs ≡ followed part (component end more)
-  pub none_pass : NonePass test part
-  pub passes : test end ≡ true
-  pub rules : IsRuleList around more
-
-abbrev pub Split : List Condition → (Component → Bool) → Components → Type 0
-Split around test cs = NonePass test cs ⊎ IsSplit around test cs
-
-split-here : (around : List Condition) (test : Component → Bool) (c : Component) (cs : Components)
-    → test c ≡ true → IsRuleList around cs → Split around test (component c cs)
-split-here around test c cs e l = inr (record {
-  part = no_components;
-  end = c;
-  more = cs;
-  joined = refl;
-  none_pass = tt;
-  passes = e;
-  rules = l;
-})
-
-split-later : (around : List Condition) (test : Component → Bool) (c : Component) (cs : Components)
-    → test c ≡ false → Split around test cs → Split around test (component c cs)
-split-later around test c cs e (inl n) = inl (e, n)
-split-later around test c cs e (inr s) = inr (record {
-  part = component c s.part;
-  end = s.end;
-  more = s.more;
-  joined = ap (component c) s.joined;
-  none_pass = (e, s.none_pass);
-  passes = s.passes;
-  rules = s.rules;
-})
-
 -- the at-rule that begins with this at-keyword
 list-at_rule : (around : List Condition) (c : Component) (cs : Components) → is_some (at_keyword_of c) ≡ true
-    → Split around ends_at_rule cs → IsRuleList around (component c cs)
+    → Split (IsRuleList around) ends_at_rule cs → IsRuleList around (component c cs)
 list-at_rule around c cs k (inl n) = record {
   items = [];
   rest = component c cs;
@@ -74,12 +35,12 @@ list-at_rule around c cs k (inr s) =
     with-item around (at_rule c s.part s.end) (component c cs) s.more
     (record { is_keyword = k; no_end = s.none_pass }, s.passes)
     (ap (component c) (s.joined ∙ sym (followed-followed s.part (component s.end no_components) s.more)))
-    s.rules
+    s.holds
 
 -- the qualified rule that begins with this component
 list-prelude : (around : List Condition) (c : Component) (cs : Components) → is_between_rules around c ≡ false
     → is_some (at_keyword_of c) ≡ false → is_curly_block c ≡ false
-    → Split around is_curly_block cs → IsRuleList around (component c cs)
+    → Split (IsRuleList around) is_curly_block cs → IsRuleList around (component c cs)
 list-prelude around c cs b k e (inl n) = record {
   items = [];
   rest = component c cs;
@@ -91,7 +52,7 @@ list-prelude around c cs b k e (inr s) =
     with-item around (qualified_rule (component c s.part) s.end) (component c cs) s.more
     (record { begins = (b, k); no_block = (e, s.none_pass) }, s.passes)
     (ap (component c) (s.joined ∙ sym (followed-followed s.part (component s.end no_components) s.more)))
-    s.rules
+    s.holds
 
 list-block : (around : List Condition) (c : Component) (cs : Components) → is_curly_block c ≡ true
     → IsRuleList around cs → IsRuleList around (component c cs)
@@ -118,9 +79,9 @@ mutual
     ]
   ]
 
-  split-of : (around : List Condition) (test : Component → Bool) (cs : Components) → Split around test cs
+  split-of : (around : List Condition) (test : Component → Bool) (cs : Components) → Split (IsRuleList around) test cs
   split-of around test no_components = inl tt
   split-of around test (component c cs) = elim (cases_Bool (test c)) [
-    | inl e ↦ split-here around test c cs e (list-of around cs)
-    | inr e ↦ split-later around test c cs e (split-of around test cs)
+    | inl e ↦ split-here (IsRuleList around) test c cs e (list-of around cs)
+    | inr e ↦ split-later (IsRuleList around) test c cs e (split-of around test cs)
   ]

@@ -1,19 +1,15 @@
 -- The rules of the items of a list, one after another.
-use Rattle.std.proofs.Common.{◌≡◌, ◌∙◌, ap, sym, refl, List, [], ◌∷◌, ◌++◌, ◌&&◌, ◌||◌, Bool, true, false, Option, option_map, option_and_then, append_assoc, append-nil}
+use Rattle.std.proofs.Common.{◌≡◌, ◌∙◌, ap, sym, refl, List, [], ◌∷◌, ◌++◌, true, false, Option, option_map, option_and_then, append_assoc, append-nil}
 use Rattle.std.specs.Option.{is_some}
 use Rattle.css_model.specs.Components.{Component, Components, no_components, component}
 use Rattle.css_model.specs.inner.Nesting.{followed}
-use Rattle.rules_model.specs.ComponentLists.{is_whitespace, is_token, is_cdo_or_cdc_type, at_keyword_of, is_curly_block, before, trimmed}
-use Rattle.rules_model.specs.Declarations.{ends_at_rule}
-use Rattle.rules_model.specs.Rules.{Condition, StyleRule, conditional_rule_of, condition_of, conditions_inside, is_top_level, is_between_rules, style_rule, rules_in, rules_from_at_rule, rules_in_block, rules_from_prelude}
+use Rattle.rules_model.specs.ComponentLists.{ends_at_rule, is_token, is_cdo_or_cdc_type, at_keyword_of, is_curly_block, before, trimmed}
+use Rattle.rules_model.specs.Rules.{Condition, conditional_rule_of, condition_of, conditions_inside, is_top_level, is_between_rules, style_rule, rules_in, rules_from_at_rule, rules_in_block, rules_from_prelude}
 use Rattle.rules_laws.specs.Parts.{NonePass}
-use Rattle.rules_laws.specs.RuleLists.{RuleItem, between_rules, at_rule, qualified_rule, item_components, items_components, BeginsPrelude, IsPrelude, BeginsAtRule, IsItem, AreItems, item_rules, items_rules}
+use Rattle.rules_laws.specs.RuleLists.{RuleItem, between_rules, at_rule, qualified_rule, item_components, items_components, IsPrelude, BeginsAtRule, IsItem, AreItems, item_rules, items_rules}
+use Rattle.rules_laws.proofs.Booleans.{and-false}
 use Rattle.rules_laws.proofs.Apart.{keyword-whitespace, keyword-cdo, curly-whitespace, curly-cdo, curly-keyword}
 use Rattle.rules_laws.proofs.Lists.{followed-followed, followed-end, before-end, before-all}
-
-and-false : (b c : Bool) → c ≡ false → b && c ≡ false
-and-false true c e = e
-and-false false c e = refl
 
 keyword-between : (around : List Condition) (c : Component) → is_some (at_keyword_of c) ≡ true → is_between_rules around c ≡ false
 keyword-between around c e =

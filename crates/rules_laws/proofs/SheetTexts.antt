@@ -1,16 +1,13 @@
 -- The components of a text, and the limits of sheets.
-use Rattle.std.proofs.Common.{◌≡◌, ◌∙◌, ap, sym, refl, inl, inr, ◌⊎◌, ◌↔◌, ◌≤◌, ℕ, nat_lt, Bool, true, false, Option, Some, None, List, [], ◌∷◌, arith}
+use Rattle.std.proofs.Common.{◌≡◌, sym, refl, inl, inr, ◌↔◌, nat_lt, None}
 use Rattle.std.proofs.lemmas.Bool.{cases_Bool, ltb-false, le-ltb}
 use Rattle.std.proofs.lemmas.Option.{none-some}
 use Rattle.css_model.specs.declared.token.TheConstants.{MAX_NESTING}
 use Rattle.css_model.specs.Classes.{Text}
-use Rattle.css_model.specs.Components.{IsComponents}
-use Rattle.css_model.specs.TokenList.{IsTokenList}
 use Rattle.css_model.specs.inner.Pieces.{tokens}
 use Rattle.css_model.proofs.Nesting.{nesting-is}
 use Rattle.css_model.proofs.NumberPieces.{tokens-are-tokens}
 use Rattle.rules_model.specs.declared.limits.TheConstants.{MAX_SHEET_BYTES, MAX_STYLE_RULES}
-use Rattle.rules_model.specs.declared.sheet_limit.SheetLimit.{SheetLimit}
 use Rattle.rules_model.specs.declared.sheet_limit.SheetLimit.TheVariants.{TooDeep, TooLarge, TooManyRules}
 use Rattle.rules_model.specs.Sheets.{SheetSize, components_of, first_limit, sheet_limits, limit_of_sheet, size_of_sheet}
 use Rattle.rules_laws.specs.Accepted.{IsWithin}

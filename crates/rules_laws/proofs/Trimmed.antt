@@ -1,22 +1,11 @@
 -- A list of component values without the white space at its ends.
-use Rattle.std.proofs.Common.{◌≡◌, ◌∙◌, ap, sym, refl, subst, inl, inr, ◌⊎◌, ◌&&◌, if◌then◌else◌, Bool, true, false}
+use Rattle.std.proofs.Common.{◌≡◌, ◌∙◌, ap, sym, refl, inl, inr, ◌&&◌, if◌then◌else◌, Bool, true, false}
 use Rattle.std.proofs.lemmas.Bool.{cases_Bool}
 use Rattle.css_model.specs.Components.{Component, Components, no_components, component}
 use Rattle.css_model.specs.inner.Nesting.{followed}
 use Rattle.rules_model.specs.ComponentLists.{is_whitespace, are_whitespace, without_front_whitespace, without_end_whitespace, trimmed}
+use Rattle.rules_laws.proofs.Booleans.{and-left, and-right, and-false}
 use Rattle.rules_laws.specs.Parts.{BeginsWithout, last_of, EndsWithout, IsPadded}
-
-pub and-left : (b c : Bool) → b && c ≡ true → b ≡ true
-and-left true c e = refl
-and-left false c e = cc
-
-pub and-right : (b c : Bool) → b && c ≡ true → c ≡ true
-and-right true c e = e
-and-right false c e = cc
-
-and-false : (b : Bool) → b && false ≡ false
-and-false true = refl
-and-false false = refl
 
 -- ---- white space in front
 
@@ -107,7 +96,7 @@ end-all (component c cs) e = rw e refl
 last-whitespace : (c : Component) (cs back : Components) → is_whitespace (last_of c cs) ≡ false
     → are_whitespace (component c (followed cs back)) ≡ false
 last-whitespace c no_components back e = rw e refl
-last-whitespace c (component d ds) back e = rw (last-whitespace d ds back e) (and-false (is_whitespace c))
+last-whitespace c (component d ds) back e = rw (last-whitespace d ds back e) (and-false (is_whitespace c) false refl)
 
 end-exact : (c : Component) (cs back : Components) → is_whitespace (last_of c cs) ≡ false → are_whitespace back ≡ true
     → without_end_whitespace (component c (followed cs back)) ≡ component c cs

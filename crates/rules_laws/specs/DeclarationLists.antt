@@ -3,8 +3,8 @@ use Rattle.std.specs.Prelude.{◌≡◌, List, [], ◌∷◌, flat_map, true, fa
 use Rattle.std.specs.Option.{is_some}
 use Rattle.css_model.specs.Components.{Component, Components, no_components, component}
 use Rattle.css_model.specs.inner.Nesting.{followed}
-use Rattle.rules_model.specs.ComponentLists.{at_keyword_of, is_semicolon}
-use Rattle.rules_model.specs.Declarations.{Declaration, declaration_of, ends_at_rule, is_between_declarations, with_declaration}
+use Rattle.rules_model.specs.ComponentLists.{ends_at_rule, at_keyword_of, is_semicolon}
+use Rattle.rules_model.specs.Declarations.{Declaration, declaration_of, is_between_declarations, with_declaration}
 use Rattle.rules_laws.specs.Parts.{NonePass}
 use Rattle.rules_laws.specs.RuleLists.{BeginsAtRule}
 

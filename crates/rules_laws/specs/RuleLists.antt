@@ -3,8 +3,7 @@ use Rattle.std.specs.Prelude.{◌≡◌, ◌⊎◌, List, [], ◌∷◌, ◌++�
 use Rattle.std.specs.Option.{is_some}
 use Rattle.css_model.specs.Components.{Component, Components, no_components, component}
 use Rattle.css_model.specs.inner.Nesting.{followed}
-use Rattle.rules_model.specs.ComponentLists.{at_keyword_of, is_curly_block}
-use Rattle.rules_model.specs.Declarations.{ends_at_rule}
+use Rattle.rules_model.specs.ComponentLists.{ends_at_rule, at_keyword_of, is_curly_block}
 use Rattle.rules_model.specs.Rules.{Condition, StyleRule, condition_of, conditions_inside, is_between_rules, rules_in_block, style_rule}
 use Rattle.rules_laws.specs.Parts.{NonePass}
 

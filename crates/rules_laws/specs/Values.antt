@@ -1,10 +1,9 @@
 -- What a declaration consists of (CSS Syntax 3, section 5.4.6).
-use Rattle.std.specs.Prelude.{◌≡◌, Option, Some, Bool, true, false}
-use Rattle.css_model.specs.Classes.{Text}
-use Rattle.css_model.specs.Components.{Component, Components, no_components, component}
+use Rattle.std.specs.Prelude.{◌≡◌, Some, Bool, true, false}
+use Rattle.css_model.specs.Components.{Component, Components, component}
 use Rattle.css_model.specs.inner.Nesting.{followed}
 use Rattle.rules_model.specs.ComponentLists.{are_whitespace, ident_of, is_colon, is_token}
-use Rattle.rules_model.specs.Declarations.{Declaration, has_important_mark, is_exclamation_type, is_important_type}
+use Rattle.rules_model.specs.Declarations.{Declaration, is_exclamation_type, is_important_type}
 use Rattle.rules_laws.specs.Parts.{IsPadded}
 
 -- `!`, perhaps white space, `important`, perhaps white space

@@ -5,8 +5,8 @@ ghost use Rattle.rules_laws.specs.DeclarationLists.{AreItems, DeclarationItem, D
 ghost use Rattle.rules_laws.specs.Order.{IsSublist, declared_tokens};
 ghost use Rattle.rules_laws.specs.RuleLists.{BeginsAtRule};
 ghost use Rattle.rules_laws.specs.Values.{IsDeclaration};
-ghost use Rattle.rules_model.specs.ComponentLists.{is_semicolon};
-ghost use Rattle.rules_model.specs.Declarations.{Declaration, declaration_of, declarations_of, ends_at_rule};
+ghost use Rattle.rules_model.specs.ComponentLists.{ends_at_rule, is_semicolon};
+ghost use Rattle.rules_model.specs.Declarations.{Declaration, declaration_of, declarations_of};
 ghost use Rattle.std.specs.Prelude.{◌≡◌, ◌↔◌, ◌++◌, List, None, Some, true};
 
 /// A piece is a declaration exactly where it is an identifier, perhaps white space, `:` and a value,

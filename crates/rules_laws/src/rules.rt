@@ -3,8 +3,7 @@ ghost use Rattle.css_model.specs.Components.{Component, Components, all_tokens_o
 ghost use Rattle.css_model.specs.inner.Nesting.{followed};
 ghost use Rattle.rules_laws.specs.Order.{IsSublist, rule_tokens};
 ghost use Rattle.rules_laws.specs.RuleLists.{AreItems, BeginsAtRule, IsRuleList, IsUnended, RuleItem, items_components, items_rules};
-ghost use Rattle.rules_model.specs.ComponentLists.{at_keyword_of, is_semicolon};
-ghost use Rattle.rules_model.specs.Declarations.{ends_at_rule};
+ghost use Rattle.rules_model.specs.ComponentLists.{ends_at_rule, at_keyword_of, is_semicolon};
 ghost use Rattle.rules_model.specs.Rules.{Condition, conditional_rule_of, rules_in};
 ghost use Rattle.std.specs.Prelude.{◌≡◌, ◌++◌, List, None, option_and_then, true};
 

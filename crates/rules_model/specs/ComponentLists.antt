@@ -1,5 +1,5 @@
 -- What rules and declarations ask of component values, and parts of lists of them.
-use Rattle.std.specs.Prelude.{◌&&◌, if◌then◌else◌, Option, Some, None, Bool, true, false}
+use Rattle.std.specs.Prelude.{◌&&◌, ◌||◌, if◌then◌else◌, Option, Some, None, Bool, true, false}
 use Rattle.css_model.specs.declared.token.Bracket.TheVariants.{Curly}
 use Rattle.css_model.specs.declared.token.TokenType.{TokenType}
 use Rattle.css_model.specs.declared.token.TokenType.TheVariants.{Ident, AtKeyword, Whitespace, Cdo, Cdc, Colon, Semicolon, Opening}
@@ -72,6 +72,10 @@ at_keyword_of c = token_name at_keyword_of_type c
 abbrev pub is_curly_block : Component → Bool
 is_curly_block (simple_block head contents close) = is_curly_type head.token_type
 is_curly_block other = false
+
+-- what ends an at-rule: its `;` or its `{}` block (CSS Syntax 3, section 5.4.2)
+abbrev pub ends_at_rule : Component → Bool
+ends_at_rule c = is_semicolon c || is_curly_block c
 
 -- what is in a simple block
 abbrev pub contents_of : Component → Components

@@ -7,7 +7,7 @@ use Rattle.css_model.specs.declared.token.TokenType.{TokenType}
 use Rattle.css_model.specs.declared.token.TokenType.TheVariants.{Ident, Delim}
 use Rattle.css_model.specs.Classes.{Text}
 use Rattle.css_model.specs.Components.{Component, Components, no_components, component}
-use Rattle.rules_model.specs.ComponentLists.{is_token, is_whitespace, is_colon, is_semicolon, ident_of, at_keyword_of, is_curly_block, before, are_whitespace, trimmed}
+use Rattle.rules_model.specs.ComponentLists.{is_token, is_whitespace, is_colon, is_semicolon, ident_of, at_keyword_of, ends_at_rule, before, are_whitespace, trimmed}
 
 -- a declaration: its name, its value without white space at the ends, and whether it is important
 pub record Declaration : Type 0 where
@@ -72,10 +72,6 @@ declaration_of no_components = None
 declaration_of (component c cs) = declaration_from (ident_of c) (after_colon cs)
 
 -- ---- a list of declarations and at-rules (5.4.4, 5.4.5)
-
--- what ends an at-rule: its `;` or its `{}` block (5.4.2)
-abbrev pub ends_at_rule : Component → Bool
-ends_at_rule c = is_semicolon c || is_curly_block c
 
 -- what is passed over where a declaration would begin
 abbrev pub is_between_declarations : Component → Bool

@@ -6,8 +6,8 @@ use Rattle.css_model.specs.Classes.{Text}
 use Rattle.css_model.specs.Components.{Component, simple_block, Components, no_components, component}
 use Rattle.rules_model.specs.declared.conditional_rule.ConditionalRule.{ConditionalRule}
 use Rattle.rules_model.specs.declared.conditional_rule.ConditionalRule.TheVariants.{Media, Container}
-use Rattle.rules_model.specs.ComponentLists.{is_token, is_cdo_or_cdc_type, is_whitespace, at_keyword_of, is_curly_block, contents_of, before, trimmed}
-use Rattle.rules_model.specs.Declarations.{Declaration, ends_at_rule, declarations_of}
+use Rattle.rules_model.specs.ComponentLists.{ends_at_rule, is_token, is_cdo_or_cdc_type, is_whitespace, at_keyword_of, is_curly_block, contents_of, before, trimmed}
+use Rattle.rules_model.specs.Declarations.{Declaration, declarations_of}
 
 -- the at-keyword and the prelude of an at-rule, where its block is kept
 pub record Condition : Type 0 where
@@ -36,7 +36,7 @@ condition_of c cs =
     option_map (λ at_rule. record { at_rule = at_rule; prelude = trimmed (before ends_at_rule cs) })
     (option_and_then conditional_rule_of (at_keyword_of c))
 
--- the conditions around what is in the block of an at-rule; there is none around that of another
+-- the conditions around what is in the block of an at-rule, if it is kept
 abbrev pub conditions_inside : List Condition → Option Condition → Option (List Condition)
 conditions_inside around condition = option_map (λ c. around ++ (c ∷ [])) condition
 
@@ -69,7 +69,7 @@ abbrev mutual
       else if is_curly_block c then style_rule around no_components c ∷ rules_in around cs
       else rules_from_prelude around (before is_curly_block (component c cs)) cs
 
-  -- those from inside an at-rule on, with these conditions around what is in its block
+  -- those from inside an at-rule on, with these conditions around what is in its block, if it is kept
   pub rules_from_at_rule : List Condition → Option (List Condition) → Components → List StyleRule
   rules_from_at_rule around inside no_components = []
   rules_from_at_rule around inside (component c cs) =

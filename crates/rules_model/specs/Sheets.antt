@@ -1,5 +1,6 @@
 -- Sheets and `style` attributes as texts, and the limits of them.
-use Rattle.std.specs.Prelude.{ℕ, nat_lt, if◌then◌else◌, List, [], ◌∷◌, length, encode_utf8_all, Option, Some, None, Bool}
+use Rattle.std.specs.Prelude.{ℕ, nat_lt, if◌then◌else◌, List, [], ◌∷◌, length, encode_utf8_all, Option, Bool}
+use Rattle.std.specs.Map.{lookup}
 use Rattle.css_model.specs.declared.token.TheConstants.{MAX_NESTING}
 use Rattle.css_model.specs.Classes.{Text}
 use Rattle.css_model.specs.Components.{Components, depths}
@@ -49,8 +50,7 @@ sheet_limits size =
 
 -- the first limit that a sheet is above
 abbrev pub first_limit : List (Bool × SheetLimit) → Option SheetLimit
-first_limit [] = None
-first_limit (l ∷ limits) = if l.0 then Some l.1 else first_limit limits
+first_limit limits = lookup (λ above. above) limits
 
 -- the limit that refuses a sheet
 abbrev pub limit_of_sheet : Text → Option SheetLimit
