@@ -1,5 +1,5 @@
 -- Sheets and `style` attributes as texts, and the limits of them.
-use Rattle.std.specs.Prelude.{ℕ, nat_lt, if◌then◌else◌, List, [], ◌∷◌, length, encode_utf8_all, Option, Bool}
+use Rattle.std.specs.Prelude.{◌≡◌, ℕ, nat_lt, if◌then◌else◌, List, [], ◌∷◌, length, encode_utf8_all, Option, Some, None, Bool}
 use Rattle.std.specs.Map.{lookup}
 use Rattle.css_model.specs.declared.token.TheConstants.{MAX_NESTING}
 use Rattle.css_model.specs.Classes.{Text}
@@ -55,3 +55,8 @@ first_limit limits = lookup (λ above. above) limits
 -- the limit that refuses a sheet
 abbrev pub limit_of_sheet : Text → Option SheetLimit
 limit_of_sheet text = first_limit (sheet_limits (size_of_sheet text))
+
+-- this limit refuses a sheet; `None` is want of memory, which may come at any time
+abbrev pub IsRefusedBy : Text → Option SheetLimit → Type 0
+IsRefusedBy text None = Unit {0}
+IsRefusedBy text (Some limit) = limit_of_sheet text ≡ Some limit
