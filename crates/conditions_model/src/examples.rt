@@ -1,0 +1,4 @@
+//! Examples of the definitions, as Media Queries 4 has them: functions that do nothing, whose clauses
+//! the prover computes.
+
+pub mod queries;
