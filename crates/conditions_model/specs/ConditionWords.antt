@@ -1,10 +1,7 @@
 -- What a condition is written with: parts and words (Media Queries 4, section 3).
-use Rattle.std.specs.Prelude.{if◌then◌else◌, List, [], ◌∷◌, codes, Option, Some, None, option_map, Bool, false}
+use Rattle.std.specs.Prelude.{if◌then◌else◌, List, [], ◌∷◌, codes, Option, Some, None, option_map, Bool}
 use Rattle.std.specs.Str.{str_eq_ignore_ascii_case}
-use Rattle.std.specs.Option.{option_or, unwrap_or}
-use Rattle.css_model.specs.declared.token.Bracket.TheVariants.{Round}
-use Rattle.css_model.specs.declared.token.TokenType.{TokenType}
-use Rattle.css_model.specs.declared.token.TokenType.TheVariants.{Ident, Opening, Whitespace}
+use Rattle.std.specs.Option.{option_or}
 use Rattle.css_model.specs.Classes.{Text}
 use Rattle.conditions_model.specs.ConditionTrees.{ConditionTree, negation, all_of, any_of, ConditionTrees, no_conditions, condition}
 

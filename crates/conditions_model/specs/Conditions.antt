@@ -1,6 +1,6 @@
 -- The condition that component values are, for features of any kind (Media Queries 4, section 3).
 use Rattle.std.specs.Prelude.{if◌then◌else◌, List, [], ◌∷◌, Option, option_map, Bool, true, false}
-use Rattle.std.specs.Option.{option_or, unwrap_or}
+use Rattle.std.specs.Option.{unwrap_or}
 use Rattle.css_model.specs.declared.token.Bracket.TheVariants.{Round}
 use Rattle.css_model.specs.declared.token.TokenType.{TokenType}
 use Rattle.css_model.specs.declared.token.TokenType.TheVariants.{Ident, Opening, Whitespace}

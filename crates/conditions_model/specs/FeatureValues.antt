@@ -1,5 +1,5 @@
 -- The value of a feature, from a width and a height (Media Queries 4, sections 2.4 and 4.1 to 4.4).
-use Rattle.std.specs.Prelude.{ℤ, pos, ◌*ℤ◌, int_lt, not, List, [], ◌∷◌, Bool, true}
+use Rattle.std.specs.Prelude.{ℤ, pos, ◌*ℤ◌, int_lt, not, Bool, true}
 use Rattle.std.specs.List.{list_all}
 use Rattle.std.specs.declared.cmp.Ordering.{Ordering}
 use Rattle.std.specs.Ordering.{int_cmp, int_eq, is_lt, is_le, is_eq, is_ge, is_gt}
@@ -7,7 +7,7 @@ use Rattle.units64.specs.Conversions.{millionths_of}
 use Rattle.conditions_model.specs.declared.comparison.Comparison.{Comparison}
 use Rattle.conditions_model.specs.declared.comparison.Comparison.TheVariants.{LessThan, AtMost, EqualTo, AtLeast, MoreThan}
 use Rattle.conditions_model.specs.declared.feature_name.FeatureName.{FeatureName}
-use Rattle.conditions_model.specs.declared.feature_name.FeatureName.TheVariants.{Width, Height, AspectRatio, Orientation}
+use Rattle.conditions_model.specs.declared.feature_name.FeatureName.TheVariants.{Height, Orientation}
 use Rattle.conditions_model.specs.declared.length_bases.Bases.{Bases}
 use Rattle.conditions_model.specs.declared.orientation.Orientation.{Orientation as OrientationValue}
 use Rattle.conditions_model.specs.declared.orientation.Orientation.TheVariants.{Portrait, Landscape}

@@ -1,5 +1,5 @@
 -- Media queries and lists of them (Media Queries 4, sections 2.1 to 2.3 and 3).
-use Rattle.std.specs.Prelude.{ℤ, pos, ◌*ℤ◌, ◌||◌, if◌then◌else◌, List, [], ◌∷◌, map, codes, Option, Some, None, option_map, option_and_then, Bool, true, false}
+use Rattle.std.specs.Prelude.{ℤ, pos, ◌*ℤ◌, ◌||◌, if◌then◌else◌, List, [], ◌∷◌, map, codes, Option, Some, None, option_map, Bool, true, false}
 use Rattle.std.specs.List.{list_any}
 use Rattle.std.specs.Option.{option_or, unwrap_or}
 use Rattle.units64.specs.declared.constants.TheConstants.{UNITS_PER_PIXEL}

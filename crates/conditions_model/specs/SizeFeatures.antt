@@ -1,6 +1,6 @@
 -- Features of a size in their plain, boolean and range forms (Media Queries 4, sections 2.4 and 4.1 to
 -- 4.4).
-use Rattle.std.specs.Prelude.{ℤ, pos, int_le, ◌&&◌, ◌||◌, ◌==◌, if◌then◌else◌, List, [], ◌∷◌, take, drop, codes, Option, Some, None, option_map, option_and_then, Bool, true, false}
+use Rattle.std.specs.Prelude.{ℤ, pos, int_le, ◌==◌, if◌then◌else◌, List, [], ◌∷◌, take, drop, codes, Option, Some, None, option_map, option_and_then, Bool, true, false}
 use Rattle.std.specs.Option.{option_or}
 use Rattle.std.specs.Map.{lookup}
 use Rattle.units64.specs.declared.constants.TheConstants.{MILLIONTHS_PER_PIXEL}
@@ -8,7 +8,7 @@ use Rattle.css_model.specs.declared.token.TokenType.{TokenType}
 use Rattle.css_model.specs.declared.token.TokenType.TheVariants.{Delim, Number}
 use Rattle.css_model.specs.Classes.{Text}
 use Rattle.css_model.specs.Components.{Component, preserved, simple_block, Components, no_components, component}
-use Rattle.rules_model.specs.ComponentLists.{is_token, token_name, ident_of, is_whitespace, trimmed}
+use Rattle.rules_model.specs.ComponentLists.{is_token, ident_of, is_whitespace, trimmed}
 use Rattle.rules_model.specs.Declarations.{after_colon}
 use Rattle.conditions_model.specs.declared.comparison.Comparison.{Comparison}
 use Rattle.conditions_model.specs.declared.comparison.Comparison.TheVariants.{LessThan, AtMost, EqualTo, AtLeast, MoreThan}
