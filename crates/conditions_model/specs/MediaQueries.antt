@@ -157,6 +157,6 @@ abbrev pub is_empty_list : List MediaQuery → Bool
 is_empty_list [] = true
 is_empty_list (q ∷ queries) = false
 
--- a list matches where one of its queries is Yes, or where it has none (2.1, 3.2)
+-- a list matches where one of its queries is Yes, or where it has none (2.1, 3.1)
 abbrev pub media_matches : Viewport → List MediaQuery → Bool
 media_matches v queries = is_empty_list queries || list_any (λ q. is_yes (query_value v q)) queries

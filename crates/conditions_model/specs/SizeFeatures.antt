@@ -123,7 +123,7 @@ orientation_of cs = option_and_then orientation_of_name (option_and_then ident_o
 abbrev pub boolean_form : Names → Components → Option SizeFeature
 boolean_form names cs = option_map boolean (option_and_then (feature_name names) (only_component cs))
 
--- ---- the plain form, `(f: v)` (2.4.1)
+-- ---- the plain form, `(f: v)` (2.4)
 
 abbrev pub bounded_by : FeatureName → Comparison → Components → Option (List Bound)
 bounded_by f comparison cs = option_map (λ v. record { comparison = comparison; value = v } ∷ []) (value_of f cs)

@@ -1,4 +1,4 @@
--- Kleene's tables (Media Queries 4, section 3.2).
+-- Kleene's tables (Media Queries 4, section 3.1).
 use Rattle.std.specs.Prelude.{Bool, true, false}
 use Rattle.conditions_model.specs.declared.tri.Tri.{Tri}
 use Rattle.conditions_model.specs.declared.tri.Tri.TheVariants.{Yes, No, Unknown}

@@ -1,4 +1,4 @@
-//! What relative lengths refer to (CSS Values 4, section 5.1; CSS Conditional 5, section 7).
+//! What relative lengths refer to (CSS Values 4, section 6; CSS Conditional 5, section 7).
 use units64::Units;
 
 /// What a unit of length refers to.

@@ -1,4 +1,4 @@
-//! Three values (Media Queries 4, section 3.2).
+//! Three values (Media Queries 4, section 3.1).
 
 /// The value of a condition, in Kleene's logic of three values.
 #[derive(Clone, Copy, Debug, PartialEq, Eq)]

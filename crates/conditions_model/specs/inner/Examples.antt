@@ -1,5 +1,5 @@
 -- Words of the examples: conditions and queries of texts.
-use Rattle.std.specs.Prelude.{ℕ, ℤ, pos, if◌then◌else◌, Option, None, option_map, option_and_then, Bool}
+use Rattle.std.specs.Prelude.{ℕ, ℤ, pos, if◌then◌else◌, Option, Some, None, option_map, option_and_then, Bool, ◌*◌, codes}
 use Rattle.css_model.specs.Classes.{Text}
 use Rattle.css_model.specs.Components.{Component, simple_block, Components, component}
 use Rattle.page_model.specs.declared.viewport.Viewport.{Viewport}
@@ -8,11 +8,13 @@ use Rattle.rules_model.specs.Sheets.{components_of}
 use Rattle.conditions_model.specs.declared.comparison.Comparison.{Comparison}
 use Rattle.conditions_model.specs.declared.length_bases.Bases.{Bases}
 use Rattle.conditions_model.specs.declared.tri.Tri.{Tri}
-use Rattle.conditions_model.specs.ConditionTrees.{ConditionTree, ConditionTrees, no_conditions, condition}
+use Rattle.conditions_model.specs.ConditionTrees.{ConditionTree, feature, ConditionTrees, no_conditions, condition}
 use Rattle.conditions_model.specs.Conditions.{condition_of, is_round_type}
-use Rattle.conditions_model.specs.Lengths.{Length, LengthUnit, length_of, length_value as value_of_length}
+use Rattle.conditions_model.specs.Lengths.{Length, LengthUnit, length_of, length_value as value_of_length, unit}
 use Rattle.conditions_model.specs.MediaQueries.{MediaQuery, media_matches, media_names, queries_of, query_of, query_value}
-use Rattle.conditions_model.specs.SizeFeatures.{Bound, FeatureValue, length_value, SizeFeature, feature_of, only_component}
+use Rattle.conditions_model.specs.SizeFeatures.{Bound, FeatureValue, length_value, SizeFeature, boolean, feature_of, only_component, ratio_value}
+use Rattle.conditions_model.specs.declared.feature_name.FeatureName.TheVariants.{Width, Height}
+use Rattle.conditions_model.specs.declared.length_bases.LengthBase.TheVariants.{Pixel}
 
 -- ---- conditions
 
@@ -26,13 +28,27 @@ identifier_in_brackets other = None
 abbrev pub tree : Text → Option (ConditionTree Text)
 tree text = condition_of identifier_in_brackets (components_of text)
 
+-- the same where each component value is a feature
+abbrev pub tree_of_features : Text → Option (ConditionTree Text)
+tree_of_features text = condition_of (λ c. Some (codes "a")) (components_of text)
+
+-- three features
+abbrev pub a : ConditionTree Text
+a = feature (codes "a")
+
+abbrev pub b : ConditionTree Text
+b = feature (codes "b")
+
+abbrev pub c : ConditionTree Text
+c = feature (codes "c")
+
 -- two conditions
 abbrev pub two : ConditionTree Text → ConditionTree Text → ConditionTrees Text
-two a b = condition a (condition b no_conditions)
+two d e = condition d (condition e no_conditions)
 
 -- three conditions
 abbrev pub three : ConditionTree Text → ConditionTree Text → ConditionTree Text → ConditionTrees Text
-three a b c = condition a (two b c)
+three d e f = condition d (two e f)
 
 -- ---- features
 
@@ -47,6 +63,14 @@ bound comparison value = record { comparison = comparison; value = value }
 
 abbrev pub length : ℤ → LengthUnit → FeatureValue
 length millionths unit = length_value (record { millionths = millionths; unit = unit })
+
+-- a length in pixels
+abbrev pub px : ℕ → FeatureValue
+px n = length (pos (n * 1000000)) (unit Pixel 1 1)
+
+-- a ratio of two whole numbers
+abbrev pub ratio : ℕ → ℕ → FeatureValue
+ratio across down = ratio_value (pos (across * 1000000)) (pos (down * 1000000))
 
 -- the length of the first component value of a text
 abbrev pub first_length : Components → Option Length
@@ -75,6 +99,10 @@ matches width height text = media_matches (viewport width height) (queries_of (c
 -- the value of one query
 abbrev pub value : ℕ → ℕ → Text → Tri
 value width height text = query_value (viewport width height) (query_of (components_of text))
+
+-- `(width)` and `(height)`
+abbrev pub width_height : ConditionTrees SizeFeature
+width_height = condition (feature (boolean Width)) (condition (feature (boolean Height)) no_conditions)
 
 -- the query that a text is
 abbrev pub query : Text → MediaQuery

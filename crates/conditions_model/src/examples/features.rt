@@ -1,11 +1,11 @@
 //! Features in their forms (Media Queries 4, sections 2.4 and 4.1 to 4.4).
 ghost use Rattle.conditions_model.specs.Lengths.{unit};
-ghost use Rattle.conditions_model.specs.SizeFeatures.{boolean, bounded, orientation_is, ratio_value};
+ghost use Rattle.conditions_model.specs.SizeFeatures.{boolean, bounded, orientation_is};
 ghost use Rattle.conditions_model.specs.declared.comparison.Comparison.TheVariants.{LessThan, AtMost, EqualTo, AtLeast, MoreThan};
 ghost use Rattle.conditions_model.specs.declared.feature_name.FeatureName.TheVariants.{Width, Height, AspectRatio, Orientation};
 ghost use Rattle.conditions_model.specs.declared.length_bases.LengthBase.TheVariants.{Pixel, Em};
 ghost use Rattle.conditions_model.specs.declared.orientation.Orientation.TheVariants.{Landscape, Portrait};
-ghost use Rattle.conditions_model.specs.inner.Examples.{bound, length, media_feature};
+ghost use Rattle.conditions_model.specs.inner.Examples.{bound, length, media_feature, px, ratio};
 ghost use Rattle.std.specs.Prelude.{◌≡◌, ◌∷◌, [], None, Some, codes, neg_ℤ, pos};
 
 /// The boolean form (2.4.2).
@@ -25,35 +25,35 @@ pub fn boolean_form()
     ensures none { media_feature (codes "") ≡ None }
 {}
 
-/// The plain form (2.4.1, 2.4.4).
+/// The plain form (2.4, 2.4.4).
 #[tactic(auto, unfolding(css_model::specs::inner::Nesting::levels_of, css_model::specs::inner::Pieces::pieces_after, css_model::specs::inner::Fronts::parts_after))]
 pub fn plain_form()
     ensures width { media_feature (codes "width:5px")
-        ≡ Some (bounded Width (bound EqualTo (length (pos 5000000) (unit Pixel 1 1)) ∷ [])) }
+        ≡ Some (bounded Width (bound EqualTo (px 5) ∷ [])) }
     ensures height { media_feature (codes "height : 5px")
-        ≡ Some (bounded Height (bound EqualTo (length (pos 5000000) (unit Pixel 1 1)) ∷ [])) }
+        ≡ Some (bounded Height (bound EqualTo (px 5) ∷ [])) }
     ensures at_least { media_feature (codes "min-width: 5px")
-        ≡ Some (bounded Width (bound AtLeast (length (pos 5000000) (unit Pixel 1 1)) ∷ [])) }
+        ≡ Some (bounded Width (bound AtLeast (px 5) ∷ [])) }
     ensures at_most { media_feature (codes "max-height:5px")
-        ≡ Some (bounded Height (bound AtMost (length (pos 5000000) (unit Pixel 1 1)) ∷ [])) }
+        ≡ Some (bounded Height (bound AtMost (px 5) ∷ [])) }
     ensures in_capitals { media_feature (codes "MIN-Width: 5PX")
-        ≡ Some (bounded Width (bound AtLeast (length (pos 5000000) (unit Pixel 1 1)) ∷ [])) }
+        ≡ Some (bounded Width (bound AtLeast (px 5) ∷ [])) }
     ensures zero { media_feature (codes "width:0")
-        ≡ Some (bounded Width (bound EqualTo (length (pos 0) (unit Pixel 1 1)) ∷ [])) }
+        ≡ Some (bounded Width (bound EqualTo (px 0) ∷ [])) }
     ensures negative { media_feature (codes "min-width:-5px")
         ≡ Some (bounded Width (bound AtLeast (length (neg_ℤ (pos 5000000)) (unit Pixel 1 1)) ∷ [])) }
     ensures em { media_feature (codes "width:1em")
         ≡ Some (bounded Width (bound EqualTo (length (pos 1000000) (unit Em 1 1)) ∷ [])) }
     ensures a_ratio { media_feature (codes "aspect-ratio:4/3")
-        ≡ Some (bounded AspectRatio (bound EqualTo (ratio_value (pos 4000000) (pos 3000000)) ∷ [])) }
+        ≡ Some (bounded AspectRatio (bound EqualTo (ratio 4 3) ∷ [])) }
     ensures ratio_with_whitespace { media_feature (codes "min-aspect-ratio: 4 / 3 ")
-        ≡ Some (bounded AspectRatio (bound AtLeast (ratio_value (pos 4000000) (pos 3000000)) ∷ [])) }
+        ≡ Some (bounded AspectRatio (bound AtLeast (ratio 4 3) ∷ [])) }
     ensures one_number { media_feature (codes "max-aspect-ratio:2")
-        ≡ Some (bounded AspectRatio (bound AtMost (ratio_value (pos 2000000) (pos 1000000)) ∷ [])) }
+        ≡ Some (bounded AspectRatio (bound AtMost (ratio 2 1) ∷ [])) }
     ensures zeros { media_feature (codes "aspect-ratio:0/0")
-        ≡ Some (bounded AspectRatio (bound EqualTo (ratio_value (pos 0) (pos 0)) ∷ [])) }
+        ≡ Some (bounded AspectRatio (bound EqualTo (ratio 0 0) ∷ [])) }
     ensures a_comment { media_feature (codes "width/**/:/**/5px")
-        ≡ Some (bounded Width (bound EqualTo (length (pos 5000000) (unit Pixel 1 1)) ∷ [])) }
+        ≡ Some (bounded Width (bound EqualTo (px 5) ∷ [])) }
     ensures portrait { media_feature (codes "orientation:portrait")
         ≡ Some (orientation_is Portrait) }
     ensures landscape { media_feature (codes "ORIENTATION: Landscape ")
@@ -86,35 +86,35 @@ pub fn plain_form()
 #[tactic(auto, unfolding(css_model::specs::inner::Nesting::levels_of, css_model::specs::inner::Pieces::pieces_after, css_model::specs::inner::Fronts::parts_after))]
 pub fn one_sided()
     ensures less_than { media_feature (codes "width < 5px")
-        ≡ Some (bounded Width (bound LessThan (length (pos 5000000) (unit Pixel 1 1)) ∷ [])) }
+        ≡ Some (bounded Width (bound LessThan (px 5) ∷ [])) }
     ensures at_most { media_feature (codes "width <= 5px")
-        ≡ Some (bounded Width (bound AtMost (length (pos 5000000) (unit Pixel 1 1)) ∷ [])) }
+        ≡ Some (bounded Width (bound AtMost (px 5) ∷ [])) }
     ensures equal_to { media_feature (codes "width = 5px")
-        ≡ Some (bounded Width (bound EqualTo (length (pos 5000000) (unit Pixel 1 1)) ∷ [])) }
+        ≡ Some (bounded Width (bound EqualTo (px 5) ∷ [])) }
     ensures at_least { media_feature (codes "width >= 5px")
-        ≡ Some (bounded Width (bound AtLeast (length (pos 5000000) (unit Pixel 1 1)) ∷ [])) }
+        ≡ Some (bounded Width (bound AtLeast (px 5) ∷ [])) }
     ensures more_than { media_feature (codes "width > 5px")
-        ≡ Some (bounded Width (bound MoreThan (length (pos 5000000) (unit Pixel 1 1)) ∷ [])) }
+        ≡ Some (bounded Width (bound MoreThan (px 5) ∷ [])) }
     ensures less_than_after { media_feature (codes "5px < height")
-        ≡ Some (bounded Height (bound MoreThan (length (pos 5000000) (unit Pixel 1 1)) ∷ [])) }
+        ≡ Some (bounded Height (bound MoreThan (px 5) ∷ [])) }
     ensures at_most_after { media_feature (codes "5px <= height")
-        ≡ Some (bounded Height (bound AtLeast (length (pos 5000000) (unit Pixel 1 1)) ∷ [])) }
+        ≡ Some (bounded Height (bound AtLeast (px 5) ∷ [])) }
     ensures equal_to_after { media_feature (codes "5px = height")
-        ≡ Some (bounded Height (bound EqualTo (length (pos 5000000) (unit Pixel 1 1)) ∷ [])) }
+        ≡ Some (bounded Height (bound EqualTo (px 5) ∷ [])) }
     ensures at_least_after { media_feature (codes "5px >= height")
-        ≡ Some (bounded Height (bound AtMost (length (pos 5000000) (unit Pixel 1 1)) ∷ [])) }
+        ≡ Some (bounded Height (bound AtMost (px 5) ∷ [])) }
     ensures more_than_after { media_feature (codes "5px > height")
-        ≡ Some (bounded Height (bound LessThan (length (pos 5000000) (unit Pixel 1 1)) ∷ [])) }
+        ≡ Some (bounded Height (bound LessThan (px 5) ∷ [])) }
     ensures no_whitespace { media_feature (codes "width<=5px")
-        ≡ Some (bounded Width (bound AtMost (length (pos 5000000) (unit Pixel 1 1)) ∷ [])) }
+        ≡ Some (bounded Width (bound AtMost (px 5) ∷ [])) }
     ensures no_whitespace_after { media_feature (codes "5px<width")
-        ≡ Some (bounded Width (bound MoreThan (length (pos 5000000) (unit Pixel 1 1)) ∷ [])) }
+        ≡ Some (bounded Width (bound MoreThan (px 5) ∷ [])) }
     ensures a_comment_in_the_sign { media_feature (codes "width</**/=5px")
-        ≡ Some (bounded Width (bound AtMost (length (pos 5000000) (unit Pixel 1 1)) ∷ [])) }
+        ≡ Some (bounded Width (bound AtMost (px 5) ∷ [])) }
     ensures a_ratio { media_feature (codes "aspect-ratio>4/3")
-        ≡ Some (bounded AspectRatio (bound MoreThan (ratio_value (pos 4000000) (pos 3000000)) ∷ [])) }
+        ≡ Some (bounded AspectRatio (bound MoreThan (ratio 4 3) ∷ [])) }
     ensures a_ratio_after { media_feature (codes "4 / 3 <= aspect-ratio")
-        ≡ Some (bounded AspectRatio (bound AtLeast (ratio_value (pos 4000000) (pos 3000000)) ∷ [])) }
+        ≡ Some (bounded AspectRatio (bound AtLeast (ratio 4 3) ∷ [])) }
     ensures whitespace_in_the_sign { media_feature (codes "width < = 5px") ≡ None }
     ensures equal_first { media_feature (codes "width =< 5px") ≡ None }
     ensures two_signs { media_feature (codes "width <> 5px") ≡ None }
@@ -136,25 +136,25 @@ pub fn one_sided()
 #[tactic(auto, unfolding(css_model::specs::inner::Nesting::levels_of, css_model::specs::inner::Pieces::pieces_after, css_model::specs::inner::Fronts::parts_after))]
 pub fn two_sided()
     ensures less_less { media_feature (codes "1px < width < 5px")
-        ≡ Some (bounded Width (bound MoreThan (length (pos 1000000) (unit Pixel 1 1)) ∷ bound LessThan (length (pos 5000000) (unit Pixel 1 1)) ∷ [])) }
+        ≡ Some (bounded Width (bound MoreThan (px 1) ∷ bound LessThan (px 5) ∷ [])) }
     ensures less_at_most { media_feature (codes "1px < width <= 5px")
-        ≡ Some (bounded Width (bound MoreThan (length (pos 1000000) (unit Pixel 1 1)) ∷ bound AtMost (length (pos 5000000) (unit Pixel 1 1)) ∷ [])) }
+        ≡ Some (bounded Width (bound MoreThan (px 1) ∷ bound AtMost (px 5) ∷ [])) }
     ensures at_most_less { media_feature (codes "1px <= width < 5px")
-        ≡ Some (bounded Width (bound AtLeast (length (pos 1000000) (unit Pixel 1 1)) ∷ bound LessThan (length (pos 5000000) (unit Pixel 1 1)) ∷ [])) }
+        ≡ Some (bounded Width (bound AtLeast (px 1) ∷ bound LessThan (px 5) ∷ [])) }
     ensures at_most_at_most { media_feature (codes "1px <= width <= 5px")
-        ≡ Some (bounded Width (bound AtLeast (length (pos 1000000) (unit Pixel 1 1)) ∷ bound AtMost (length (pos 5000000) (unit Pixel 1 1)) ∷ [])) }
+        ≡ Some (bounded Width (bound AtLeast (px 1) ∷ bound AtMost (px 5) ∷ [])) }
     ensures more_more { media_feature (codes "1px > width > 5px")
-        ≡ Some (bounded Width (bound LessThan (length (pos 1000000) (unit Pixel 1 1)) ∷ bound MoreThan (length (pos 5000000) (unit Pixel 1 1)) ∷ [])) }
+        ≡ Some (bounded Width (bound LessThan (px 1) ∷ bound MoreThan (px 5) ∷ [])) }
     ensures more_at_least { media_feature (codes "1px > width >= 5px")
-        ≡ Some (bounded Width (bound LessThan (length (pos 1000000) (unit Pixel 1 1)) ∷ bound AtLeast (length (pos 5000000) (unit Pixel 1 1)) ∷ [])) }
+        ≡ Some (bounded Width (bound LessThan (px 1) ∷ bound AtLeast (px 5) ∷ [])) }
     ensures at_least_more { media_feature (codes "1px >= width > 5px")
-        ≡ Some (bounded Width (bound AtMost (length (pos 1000000) (unit Pixel 1 1)) ∷ bound MoreThan (length (pos 5000000) (unit Pixel 1 1)) ∷ [])) }
+        ≡ Some (bounded Width (bound AtMost (px 1) ∷ bound MoreThan (px 5) ∷ [])) }
     ensures at_least_at_least { media_feature (codes "1px >= width >= 5px")
-        ≡ Some (bounded Width (bound AtMost (length (pos 1000000) (unit Pixel 1 1)) ∷ bound AtLeast (length (pos 5000000) (unit Pixel 1 1)) ∷ [])) }
+        ≡ Some (bounded Width (bound AtMost (px 1) ∷ bound AtLeast (px 5) ∷ [])) }
     ensures no_whitespace { media_feature (codes "1px<height<=5px")
-        ≡ Some (bounded Height (bound MoreThan (length (pos 1000000) (unit Pixel 1 1)) ∷ bound AtMost (length (pos 5000000) (unit Pixel 1 1)) ∷ [])) }
+        ≡ Some (bounded Height (bound MoreThan (px 1) ∷ bound AtMost (px 5) ∷ [])) }
     ensures ratios { media_feature (codes "1/2<aspect-ratio<2")
-        ≡ Some (bounded AspectRatio (bound MoreThan (ratio_value (pos 1000000) (pos 2000000)) ∷ bound LessThan (ratio_value (pos 2000000) (pos 1000000)) ∷ [])) }
+        ≡ Some (bounded AspectRatio (bound MoreThan (ratio 1 2) ∷ bound LessThan (ratio 2 1) ∷ [])) }
     ensures less_then_more { media_feature (codes "1px < width > 5px") ≡ None }
     ensures at_most_then_at_least { media_feature (codes "1px <= width >= 5px") ≡ None }
     ensures more_then_less { media_feature (codes "1px > width < 5px") ≡ None }

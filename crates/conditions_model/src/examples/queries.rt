@@ -1,11 +1,11 @@
 //! Media queries and lists of them (Media Queries 4, sections 2.1 to 2.3 and 3).
-ghost use Rattle.conditions_model.specs.ConditionTrees.{all_of, any_of, condition, enclosed, feature, negation, no_conditions};
+ghost use Rattle.conditions_model.specs.ConditionTrees.{all_of, any_of, enclosed, feature, negation};
 ghost use Rattle.conditions_model.specs.MediaQueries.{condition_query, not_all, type_query};
 ghost use Rattle.conditions_model.specs.SizeFeatures.{boolean};
-ghost use Rattle.conditions_model.specs.declared.feature_name.FeatureName.TheVariants.{Width, Height};
+ghost use Rattle.conditions_model.specs.declared.feature_name.FeatureName.TheVariants.{Width};
 ghost use Rattle.conditions_model.specs.declared.media_type.MediaType.TheVariants.{All, Other, Screen};
 ghost use Rattle.conditions_model.specs.declared.tri.Tri.TheVariants.{Yes, No, Unknown};
-ghost use Rattle.conditions_model.specs.inner.Examples.{matches, query, value};
+ghost use Rattle.conditions_model.specs.inner.Examples.{matches, query, value, width_height};
 ghost use Rattle.std.specs.Prelude.{◌≡◌, None, Some, codes, true, false};
 
 /// Queries. What is no query is `not all`.
@@ -27,9 +27,9 @@ pub fn queries()
     ensures only_and { query (codes "only all and (width)")
         ≡ type_query false All (Some (feature (boolean Width))) }
     ensures and_and { query (codes "screen and (width) and (height)")
-        ≡ type_query false Screen (Some (all_of (condition (feature (boolean Width)) (condition (feature (boolean Height)) no_conditions)))) }
+        ≡ type_query false Screen (Some (all_of width_height)) }
     ensures and_or_in_brackets { query (codes "screen and ((width) or (height))")
-        ≡ type_query false Screen (Some (any_of (condition (feature (boolean Width)) (condition (feature (boolean Height)) no_conditions)))) }
+        ≡ type_query false Screen (Some (any_of width_height)) }
     ensures and_enclosed { query (codes "screen and (foo)")
         ≡ type_query false Screen (Some enclosed) }
     ensures and_not { query (codes "screen and not (width)")
@@ -38,7 +38,7 @@ pub fn queries()
         ≡ type_query false Screen (Some (feature (boolean Width))) }
     ensures condition { query (codes "(width)") ≡ condition_query (feature (boolean Width)) }
     ensures or { query (codes "(width) or (height)")
-        ≡ condition_query (any_of (condition (feature (boolean Width)) (condition (feature (boolean Height)) no_conditions))) }
+        ≡ condition_query (any_of width_height) }
     ensures unknown_feature { query (codes "(a)") ≡ condition_query enclosed }
     ensures and_alone { query (codes "and") ≡ not_all }
     ensures or_alone { query (codes "or") ≡ not_all }
@@ -90,7 +90,8 @@ pub fn query_values()
     ensures no_query_negated { value 800 600 (codes "not and") ≡ No }
 {}
 
-/// Lists on a viewport of 800 by 600 pixels. A list without a query matches, and one that is no query spoils itself alone.
+/// Lists on a viewport of 800 by 600 pixels. A list without a query matches, and what is no query spoils
+/// itself alone.
 #[tactic(auto, unfolding(css_model::specs::inner::Nesting::levels_of, css_model::specs::inner::Pieces::pieces_after, css_model::specs::inner::Fronts::parts_after))]
 pub fn lists()
     ensures not_unknown { matches 800 600 (codes "not (foo)") ≡ false }

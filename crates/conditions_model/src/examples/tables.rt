@@ -1,4 +1,4 @@
-//! The tables of three values (Media Queries 4, section 3.2).
+//! The tables of three values (Media Queries 4, section 3.1).
 ghost use Rattle.conditions_model.specs.TriTables.{is_yes, tri, tri_and, tri_not, tri_or};
 ghost use Rattle.conditions_model.specs.declared.tri.Tri.TheVariants.{Yes, No, Unknown};
 ghost use Rattle.std.specs.Prelude.{◌≡◌, true, false};

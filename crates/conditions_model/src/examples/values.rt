@@ -136,7 +136,8 @@ pub fn orientations()
     ensures of_nothing { value 0 0 (codes "(orientation)") ≡ Yes }
 {}
 
-/// Relative lengths: the font size is 16 pixels, and units of containers stand for those of the viewport.
+/// Relative lengths: the font size is 16 pixels, and units of containers stand for those of the
+/// viewport.
 #[tactic(auto, unfolding(css_model::specs::inner::Nesting::levels_of, css_model::specs::inner::Pieces::pieces_after, css_model::specs::inner::Fronts::parts_after))]
 pub fn relative()
     ensures em { value 800 600 (codes "(width = 50em)") ≡ Yes }
