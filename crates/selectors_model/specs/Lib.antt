@@ -1,0 +1,9 @@
+pub mod Selectors
+pub mod AnPlusBs
+pub mod PseudoNames
+pub mod Grammar
+pub mod Elements
+pub mod Values
+pub mod Matching
+pub mod Specificity
+pub mod inner

@@ -1,0 +1,4 @@
+//! Examples of the definitions, as the standards have them: functions that do nothing, whose clauses
+//! the prover computes.
+
+pub mod matching;
