@@ -1,32 +1,17 @@
 -- `An+B`: how it is written (CSS Syntax 3, sections 6.1 and 6.2), and which positions it means.
-use Rattle.std.specs.Prelude.{ℕ, ◌==◌, ◌&&◌, not, if◌then◌else◌, List, [], ◌∷◌, codes, length, drop, ℤ, pos, neg_ℤ, nat_abs, ◌-ℤ◌, int_div, int_rem, int_le, Option, Some, None, option_map, Bool, true, false}
+use Rattle.std.specs.Prelude.{ℕ, ◌==◌, ◌&&◌, not, if◌then◌else◌, List, [], ◌∷◌, codes, drop, ℤ, pos, neg_ℤ, nat_abs, ◌-ℤ◌, int_div, int_rem, int_le, Option, Some, None, option_map, Bool}
 use Rattle.std.specs.Int.{int_min, int_max}
 use Rattle.std.specs.List.{list_all, starts_with}
 use Rattle.std.specs.Char.{eq_ignore_ascii_case}
 use Rattle.std.specs.Str.{str_eq_ignore_ascii_case}
 use Rattle.css_model.specs.declared.token.Number.{Number as NumberValue}
 use Rattle.css_model.specs.declared.token.TokenType.{TokenType}
-use Rattle.css_model.specs.declared.token.TokenType.TheVariants.{Ident, Delim, Number, Dimension, Whitespace}
+use Rattle.css_model.specs.declared.token.TokenType.TheVariants.{Ident, Delim, Number, Dimension}
 use Rattle.css_model.specs.Classes.{Text, plus, hyphen, is_digit, is_empty}
 use Rattle.css_model.specs.Numerals.{decimal_after}
 use Rattle.selectors_model.specs.declared.an_plus_b.AnPlusB.{AnPlusB}
 use Rattle.selectors_model.specs.declared.an_plus_b.TheConstants.{MAX_AN_PLUS_B}
-
--- ---- white space
-
-abbrev pub is_whitespace_type : TokenType → Bool
-is_whitespace_type Whitespace = true
-is_whitespace_type other = false
-
--- without the white space in front
-abbrev pub without_front_whitespace : List TokenType → List TokenType
-without_front_whitespace [] = []
-without_front_whitespace (t ∷ ts) = if is_whitespace_type t then without_front_whitespace ts else t ∷ ts
-
--- without any white space
-abbrev pub without_whitespace : List TokenType → List TokenType
-without_whitespace [] = []
-without_whitespace (t ∷ ts) = if is_whitespace_type t then without_whitespace ts else t ∷ without_whitespace ts
+use Rattle.selectors_model.specs.TokenTypes.{without_front_whitespace, without_whitespace}
 
 -- ---- numbers
 

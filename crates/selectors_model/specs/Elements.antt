@@ -1,6 +1,6 @@
 -- Elements of a document and their relatives, as selectors see them: texts do not count
 -- (Selectors 4, sections 3.2, 14 and 15).
-use Rattle.std.specs.Prelude.{ℕ, suc, ◌==◌, if◌then◌else◌, List, [], ◌∷◌, ◌++◌, filter, length, Option, Some, None, option_map, option_to_list, unwrap_or, Bool, true, false}
+use Rattle.std.specs.Prelude.{ℕ, suc, ◌==◌, if◌then◌else◌, List, [], ◌∷◌, ◌++◌, filter, length, Option, Some, None, option_map, option_to_list, unwrap_or, Bool, false}
 use Rattle.page_model.specs.Attributes.{is_same_text}
 use Rattle.page_model.specs.Document.{Node, element, text, Nodes, no_nodes, node, all_ids, children_of, is_among, name_at, parent_in, parent_of, before}
 use Rattle.page_model.specs.Trees.{Text}
@@ -53,7 +53,7 @@ abbrev pub all_after : ℕ → List ℕ → List ℕ
 all_after i [] = []
 all_after i (j ∷ js) = if i == j then js else all_after i js
 
--- ---- positions (section 14.3 to 14.6)
+-- ---- positions (sections 14.3 and 14.4)
 
 -- the element's position among its siblings, from 1, as each pseudo-class counts
 abbrev pub position_of : Nth → ℕ → Node → ℕ

@@ -1,21 +1,20 @@
 -- Which selector list component values spell (Selectors 4, sections 3.9, 4 and 18).
-use Rattle.std.specs.Prelude.{ℕ, ◌==◌, ◌&&◌, not, if◌then◌else◌, List, [], ◌∷◌, map, codes, nat_lt, Option, Some, None, option_map, option_and_then, unwrap_or, Bool, true, false}
+use Rattle.std.specs.Prelude.{ℕ, ◌==◌, ◌&&◌, if◌then◌else◌, List, [], ◌∷◌, map, codes, nat_lt, Option, Some, None, option_map, option_and_then, unwrap_or, Bool, true, false}
 use Rattle.std.specs.Map.{lookup}
 use Rattle.std.specs.Str.{str_eq_ignore_ascii_case}
 use Rattle.css_model.specs.declared.token.Bracket.TheVariants.{Square}
-use Rattle.css_model.specs.declared.token.Token.{Token}
 use Rattle.css_model.specs.declared.token.TheConstants.{MAX_NESTING}
 use Rattle.css_model.specs.declared.token.TokenType.{TokenType}
-use Rattle.css_model.specs.declared.token.TokenType.TheVariants.{Ident, Function, Hash, String, Delim, Whitespace, Colon, Comma, Opening}
+use Rattle.css_model.specs.declared.token.TokenType.TheVariants.{Ident, Function, Hash, Delim, Whitespace, Colon, Comma, Opening}
 use Rattle.css_model.specs.Classes.{Text, plus, full_stop}
 use Rattle.css_model.specs.Components.{Component, preserved, simple_block, function_block, Components, no_components, component, depths}
-use Rattle.selectors_model.specs.declared.attribute_matcher.AttributeMatcher.{AttributeMatcher}
-use Rattle.selectors_model.specs.declared.attribute_matcher.AttributeMatcher.TheVariants.{Equals, Includes, DashMatch, Prefix, Suffix, Substring}
 use Rattle.selectors_model.specs.declared.combinator.Combinator.{Combinator}
 use Rattle.selectors_model.specs.declared.combinator.Combinator.TheVariants.{Descendant, Child, NextSibling, SubsequentSibling}
-use Rattle.selectors_model.specs.AnPlusBs.{without_front_whitespace, an_plus_b_of}
+use Rattle.selectors_model.specs.AnPlusBs.{an_plus_b_of}
+use Rattle.selectors_model.specs.TokenTypes.{types_of}
+use Rattle.selectors_model.specs.AttributeSelectors.{attribute_of}
 use Rattle.selectors_model.specs.PseudoNames.{named, pseudo_class_of, nth_pseudo_classes, is_one_colon_pseudo_element, is_pseudo_element, is_webkit_pseudo_element}
-use Rattle.selectors_model.specs.Selectors.{Simple, type_selector, universal, id_selector, class_selector, attribute_present, attribute_value, pseudo_class, nth_pseudo_class, is_pseudo_class, where_pseudo_class, not_pseudo_class, pseudo_element, Compound, no_simples, simple, Selector, compound, combined, SelectorList, no_selectors, selector}
+use Rattle.selectors_model.specs.Selectors.{Simple, type_selector, universal, id_selector, class_selector, pseudo_class, nth_pseudo_class, is_pseudo_class, where_pseudo_class, not_pseudo_class, pseudo_element, Compound, no_simples, simple, Selector, compound, combined, SelectorList, no_selectors, selector}
 
 -- ---- what a component is in a selector
 
@@ -72,70 +71,6 @@ atom_of_type (Hash name is_id) = if is_id then whole (id_selector name) else oth
 atom_of_type (Delim c) = unwrap_or (lookup (λ d. c == d) delims) other
 atom_of_type token_type = other
 
--- the types of the tokens of a list, where a block or a function has the type of the token that opens it
-abbrev pub type_of : Component → TokenType
-type_of (preserved t) = t.token_type
-type_of (simple_block head contents close) = head.token_type
-type_of (function_block head contents close) = head.token_type
-
-abbrev pub types_of : Components → List TokenType
-types_of no_components = []
-types_of (component c cs) = type_of c ∷ types_of cs
-
--- ---- attribute selectors (section 6)
-
--- `=` is a delim
-abbrev pub is_equals : TokenType → Bool
-is_equals (Delim c) = c == 61
-is_equals token_type = false
-
--- what is before the `=` of each matcher other than `=`
-abbrev pub matchers : List (ℕ × AttributeMatcher)
-matchers =
-    (126, Includes) ∷ (124, DashMatch) ∷ (94, Prefix) ∷ (36, Suffix) ∷ (42, Substring) ∷ []
-
--- an identifier or a string, and no more
-abbrev pub value_alone : Text → List TokenType → Option Text
-value_alone value [] = Some value
-value_alone value (t ∷ ts) = None
-
-abbrev pub value_of : List TokenType → Option Text
-value_of (Ident value ∷ ts) = value_alone value (without_front_whitespace ts)
-value_of (String value ∷ ts) = value_alone value (without_front_whitespace ts)
-value_of ts = None
-
--- a value after a matcher
-abbrev pub attribute_with : Text → AttributeMatcher → List TokenType → Option Simple
-attribute_with name matcher ts =
-    option_map (λ value. attribute_value name matcher value) (value_of (without_front_whitespace ts))
-
--- the same where the first part of the matcher was before this: the `=` is right after it
-abbrev pub attribute_after : Text → Option AttributeMatcher → List TokenType → Option Simple
-attribute_after name (Some matcher) (t ∷ ts) =
-    if is_equals t then attribute_with name matcher ts else None
-attribute_after name matcher ts = None
-
--- what is after the name: nothing, or a matcher and a value
-abbrev pub attribute_from : Text → List TokenType → Option Simple
-attribute_from name [] = Some (attribute_present name)
-attribute_from name (Delim c ∷ ts) =
-    if c == 61 then attribute_with name Equals ts
-    else attribute_after name (lookup (λ d. c == d) matchers) ts
-attribute_from name ts = None
-
-abbrev pub attribute_named : List TokenType → Option Simple
-attribute_named (Ident name ∷ ts) = attribute_from name (without_front_whitespace ts)
-attribute_named ts = None
-
--- the attribute selector with this in its brackets; white space may be at each place but in a matcher
-abbrev pub attribute_of : List TokenType → Option Simple
-attribute_of ts = attribute_named (without_front_whitespace ts)
-
--- `[`
-abbrev pub is_square_type : TokenType → Bool
-is_square_type (Opening Square) = true
-is_square_type token_type = false
-
 -- ---- compounds (sections 3.1 and 18)
 
 abbrev pub in_front : Option Simple → Option Compound → Option Compound
@@ -181,8 +116,8 @@ with_descendants after_compound [] = []
 with_descendants after_compound (a ∷ atoms) =
     if is_white a
     then if after_compound && begins_compound atoms
-        then combinator Descendant ∷ with_descendants false atoms
-        else with_descendants after_compound atoms
+    then combinator Descendant ∷ with_descendants false atoms
+    else with_descendants after_compound atoms
     else a ∷ with_descendants (is_in_compound a) atoms
 
 -- the atoms before the first combinator, and after each combinator those before the next
@@ -248,6 +183,11 @@ abbrev pub list_of_valid : List (Option Selector) → SelectorList
 list_of_valid [] = no_selectors
 list_of_valid (s ∷ members) = with_valid s (list_of_valid members)
 
+-- `[`
+abbrev pub is_square_type : TokenType → Bool
+is_square_type (Opening Square) = true
+is_square_type token_type = false
+
 -- ---- functions (sections 4.2 to 4.4 and 14)
 
 abbrev pub is_pseudo_element_selector : Simple → Bool
@@ -281,7 +221,7 @@ functional_pseudo_class name atoms types =
     else if str_eq_ignore_ascii_case name (codes "not")
     then option_map (λ list. not_pseudo_class list) (list_of_all (arguments_of atoms))
     else option_and_then (λ nth. option_map (λ at. nth_pseudo_class nth at) (an_plus_b_of types))
-        (named nth_pseudo_classes name)
+    (named nth_pseudo_classes name)
 
 -- what a function is
 abbrev pub atom_of_function : TokenType → List Atom → List TokenType → Atom

@@ -1,5 +1,7 @@
 pub mod Selectors
+pub mod TokenTypes
 pub mod AnPlusBs
+pub mod AttributeSelectors
 pub mod PseudoNames
 pub mod Grammar
 pub mod Elements

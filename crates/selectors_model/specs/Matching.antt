@@ -24,11 +24,11 @@ attribute_matches matcher (Some actual) value = value_matches matcher actual val
 abbrev pub nth_matches : Nth → AnPlusB → ℕ → Node → Bool
 nth_matches nth at i root = is_position at (position_of nth i root)
 
--- `:nth-child(1)` and its like (14.3 to 14.6)
+-- `:nth-child(1)` and its like (14.3.3 and 14.4.3)
 abbrev pub is_first : Nth → ℕ → Node → Bool
 is_first nth i root = nth_matches nth (record { step = pos 0; offset = pos 1 }) i root
 
--- sections 14.1 to 14.5
+-- what a pseudo-class without arguments matches (sections 14.1, 14.3 and 14.4)
 abbrev pub pseudo_class_matches : PseudoClass → ℕ → Node → Bool
 pseudo_class_matches Root i root = is_none (parent_in i root)
 pseudo_class_matches FirstChild i root = is_first Child i root

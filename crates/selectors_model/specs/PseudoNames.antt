@@ -1,5 +1,5 @@
 -- The names of pseudo-classes and pseudo-elements, in any case (Selectors 4, sections 3.5 and 3.6).
-use Rattle.std.specs.Prelude.{◌||◌, if◌then◌else◌, List, [], ◌∷◌, codes, Option, Some, None, Bool}
+use Rattle.std.specs.Prelude.{◌||◌, if◌then◌else◌, List, [], ◌∷◌, codes, Option, Some, Bool}
 use Rattle.std.specs.Char.{eq_ignore_ascii_case}
 use Rattle.std.specs.List.{list_any, starts_with}
 use Rattle.std.specs.Map.{lookup}
@@ -32,7 +32,7 @@ structural_pseudo_classes =
     ∷ (codes "only-of-type", OnlyOfType)
     ∷ []
 
--- those of links, of what a user does, and of inputs (sections 8, 9 and 12): no element is in such a
+-- those of links, of what a user does, and of inputs (sections 8, 9 and 13): no element is in such a
 -- state here
 abbrev pub unmatched_pseudo_classes : List Text
 unmatched_pseudo_classes =
@@ -48,7 +48,7 @@ pseudo_class_of name =
     if is_one_of unmatched_pseudo_classes name then Some Unmatched
     else named structural_pseudo_classes name
 
--- those that count siblings (14.3 to 14.6)
+-- those that count siblings (14.3 and 14.4)
 abbrev pub nth_pseudo_classes : List (Text × Nth)
 nth_pseudo_classes =
     (codes "nth-child", NthChild)
@@ -70,7 +70,7 @@ two_colon_pseudo_elements = codes "marker" ∷ codes "selection" ∷ codes "plac
 abbrev pub is_one_colon_pseudo_element : Text → Bool
 is_one_colon_pseudo_element name = is_one_of one_colon_pseudo_elements name
 
--- each name that begins with `-webkit-` is known, also as a function (compatibility, appendix)
+-- each name that begins with `-webkit-` is known, also as a function (appendix B)
 abbrev pub is_webkit_pseudo_element : Text → Bool
 is_webkit_pseudo_element name = starts_with eq_ignore_ascii_case name (codes "-webkit-")
 

@@ -1,15 +1,12 @@
 -- How the value of an attribute is compared (Selectors 4, sections 6.1 and 6.2).
-use Rattle.std.specs.Prelude.{ℕ, ◌==◌, ◌&&◌, ◌||◌, not, nat_eq, if◌then◌else◌, List, [], ◌∷◌, ◌++◌, Bool, false}
+use Rattle.std.specs.Prelude.{ℕ, ◌&&◌, ◌||◌, not, nat_eq, if◌then◌else◌, List, [], ◌∷◌, ◌++◌, Bool, false}
+use Rattle.std.specs.Char.{is_ascii_whitespace}
 use Rattle.std.specs.List.{list_any, starts_with, ends_with}
-use Rattle.css_model.specs.Classes.{hyphen, is_empty, newline, space, tab}
+use Rattle.css_model.specs.Classes.{hyphen, is_empty}
 use Rattle.page_model.specs.Attributes.{is_same_text}
 use Rattle.page_model.specs.Trees.{Text}
 use Rattle.selectors_model.specs.declared.attribute_matcher.AttributeMatcher.{AttributeMatcher}
 use Rattle.selectors_model.specs.declared.attribute_matcher.AttributeMatcher.TheVariants.{Equals, Includes, DashMatch, Prefix, Suffix, Substring}
-
--- ASCII white space: tab, line feed, form feed, carriage return and space
-abbrev pub is_ascii_whitespace : ℕ → Bool
-is_ascii_whitespace c = (c == tab) || ((c == newline) || ((c == 12) || ((c == 13) || (c == space))))
 
 -- a code point in front of the first text
 abbrev pub in_first_text : ℕ → List Text → List Text

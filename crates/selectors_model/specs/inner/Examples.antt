@@ -1,14 +1,14 @@
 -- Words of the examples.
-use Rattle.std.specs.Prelude.{List, [], ◌∷◌, Option, Some, None, option_map, option_and_then, is_some, unwrap_or, ℕ, ℤ, Bool}
+use Rattle.std.specs.Prelude.{List, [], ◌∷◌, Option, option_map, option_and_then, is_some, unwrap_or, ℕ, ℤ, Bool}
 use Rattle.css_model.specs.Classes.{Text}
 use Rattle.css_model.specs.Components.{Components}
 use Rattle.css_model.specs.inner.Nesting.{nesting}
 use Rattle.css_model.specs.inner.Pieces.{tokens}
 use Rattle.page_model.specs.Document.{Node}
-use Rattle.selectors_model.specs.AnPlusBs.{an_plus_b_of, is_position}
-use Rattle.selectors_model.specs.declared.an_plus_b.AnPlusB.{AnPlusB}
+use Rattle.selectors_model.specs.AnPlusBs.{an_plus_b_of}
 use Rattle.selectors_model.specs.declared.spec.Spec.{Spec}
-use Rattle.selectors_model.specs.Grammar.{selector_list_within, types_of}
+use Rattle.selectors_model.specs.Grammar.{selector_list_within}
+use Rattle.selectors_model.specs.TokenTypes.{types_of}
 use Rattle.selectors_model.specs.Matching.{matched}
 use Rattle.selectors_model.specs.Selectors.{SelectorList, no_selectors, selector}
 use Rattle.selectors_model.specs.Specificity.{specificity, matching_specificity}

@@ -123,7 +123,7 @@ pub fn attributes()
     ensures a_type_after { is_list (codes "[a]p") ≡ false }
 {}
 
-/// Pseudo-classes without arguments, in any case (sections 3.5, 8, 9, 12 and 14).
+/// Pseudo-classes without arguments, in any case (sections 3.5, 8, 9, 13 and 14).
 #[tactic(auto, unfolding(css_model::specs::inner::Nesting::levels_of, css_model::specs::inner::Pieces::pieces_after, css_model::specs::inner::Fronts::parts_after))]
 pub fn pseudo_classes()
     ensures root { is_list (codes ":root") ≡ true }
