@@ -1,5 +1,5 @@
 -- Lists of the members that are valid.
-use Rattle.std.proofs.Common.{◌≡◌, ◌∙◌, ap, sym, refl, List, [], ◌∷◌, Option, Some, None}
+use Rattle.std.proofs.Common.{◌≡◌, ◌∙◌, ap, refl, List, [], ◌∷◌, Option, Some, None}
 use Rattle.std.proofs.lemmas.Option.{none-some, same_Some}
 use Rattle.selectors_model.specs.Grammar.{in_front_of_list, list_of_all, list_of_valid}
 use Rattle.selectors_model.specs.Selectors.{Selector, SelectorList, no_selectors, selector}

@@ -1,5 +1,5 @@
 -- What matches: members, compounds and chains.
-use Rattle.std.proofs.Common.{◌≡◌, ◌∙◌, ◌⊎◌, ap, sym, subst, refl, inl, inr, ℕ, ◌&&◌, ◌||◌, not, List, [], ◌∷◌, Bool, true, false}
+use Rattle.std.proofs.Common.{◌≡◌, ◌∙◌, ap, sym, subst, refl, inl, inr, ℕ, ◌&&◌, ◌||◌, not, List, [], ◌∷◌, Bool, true, false}
 use Rattle.std.proofs.lemmas.Bool.{cases_Bool}
 use Rattle.std.specs.List.{list_any}
 use Rattle.page_model.specs.Document.{Node, IsAmong}
@@ -167,9 +167,12 @@ pub chain-from : (root : Node) (s : Selector) (i : ℕ) → matches root s i ≡
 chain-from root (compound c) i e = e
 chain-from root (combined s b c) i e =
     let found = any-found (matches root s) (left_of b i root)
-        (and-right (compound_matches root c i) (list_any (matches root s) (left_of b i root)) e) in
-    (and-left (compound_matches root c i) (list_any (matches root s) (left_of b i root)) e,
-      found.0, found.1, chain-from root s found.0 found.2)
+    (and-right (compound_matches root c i) (list_any (matches root s) (left_of b i root)) e) in (
+      and-left (compound_matches root c i) (list_any (matches root s) (left_of b i root)) e,
+      found.0,
+      found.1,
+      chain-from root s found.0 found.2,
+    )
 
 pub from-chain : (root : Node) (s : Selector) (i : ℕ) → IsMatch root s i → matches root s i ≡ true
 from-chain root (compound c) i e = e

@@ -1,12 +1,11 @@
 -- Sums of specificities, their order, and the greatest of a list.
-use Rattle.std.proofs.Common.{arith, eq-eqb, eqb-true, ltb-true, ltb-false, nat_lt, ◌==◌, ◌<◌, ◌≤◌, ◌≢◌, if◌then◌else◌, ◌≡◌, ◌∙◌, ◌⊎◌, ap, sym, subst, refl, inl, inr, ℕ, ◌+◌, min, Some, None, Option, Bool, true, false}
+use Rattle.std.proofs.Common.{arith, eq-eqb, eqb-true, ltb-true, ltb-false, nat_lt, ◌==◌, ◌<◌, ◌≤◌, ◌≢◌, if◌then◌else◌, ◌≡◌, ◌∙◌, ◌⊎◌, ap, sym, subst, refl, inl, inr, ℕ, Some, None, Option, Bool, true, false}
 use Rattle.std.proofs.lemmas.Bool.{cases_Bool, false≢true}
 use Rattle.std.proofs.lemmas.Option.{none-some, same_Some}
 use Rattle.page_model.specs.Document.{Node}
 use Rattle.selectors_model.specs.declared.spec.Spec.{Spec}
-use Rattle.selectors_model.specs.declared.spec.TheConstants.{MAX_COUNT}
 use Rattle.selectors_model.specs.Matching.{matches}
-use Rattle.selectors_model.specs.Selectors.{Simple, Compound, no_simples, simple, Selector, SelectorList, no_selectors, selector}
+use Rattle.selectors_model.specs.Selectors.{Compound, no_simples, simple, Selector, SelectorList, no_selectors, selector}
 use Rattle.selectors_model.specs.Specificity.{count_sum, spec, spec_sum, is_less_spec, greater_spec, or_greater, simple_specificity, compound_specificity, specificity, greatest_specificity, matching_specificity}
 use Rattle.selectors_laws.specs.Lists.{compounds_joined}
 use Rattle.selectors_laws.specs.Members.{IsMember}
@@ -168,7 +167,7 @@ upper root (selector t list) i a s e m y = elim (cases_Bool (matches root t i)) 
     | inr below ↦ elim (some-or-none (matching_specificity root list i)) [
       | inl n ↦ absurd (false≢true (sym (none-matches root list i s n below) ∙ y))
       | inr q ↦ let g : or_greater (specificity t) (Some q.0) ≡ Some a =
-            subst (λ (o : Option Spec). or_greater (specificity t) o ≡ Some a) q.1 f in
+          subst (λ (o : Option Spec). or_greater (specificity t) o ≡ Some a) q.1 f in
           or-right (specificity t) q.0 a (specificity s) g (upper root list i q.0 s q.1 below y)
     ]
   ]
@@ -199,10 +198,10 @@ reached root (selector t list) i a e = elim (cases_Bool (matches root t i)) [
   | inl on ↦ let f : or_greater (specificity t) (matching_specificity root list i) ≡ Some a = sym (if-true (matches root t i) (or_greater (specificity t) (matching_specificity root list i)) (matching_specificity root list i) on) ∙ e in
       elim (some-or-none (matching_specificity root list i)) [
         | inl n ↦ let g : or_greater (specificity t) None ≡ Some a =
-              subst (λ (o : Option Spec). or_greater (specificity t) o ≡ Some a) n f in
+            subst (λ (o : Option Spec). or_greater (specificity t) o ≡ Some a) n f in
             (t, inl refl, on, same_Some (specificity t) a g)
         | inr q ↦ let g : or_greater (specificity t) (Some q.0) ≡ Some a =
-              subst (λ (o : Option Spec). or_greater (specificity t) o ≡ Some a) q.1 f in
+            subst (λ (o : Option Spec). or_greater (specificity t) o ≡ Some a) q.1 f in
             subst (Reached root (selector t list) i) (same_Some (greater_spec (specificity t) q.0) a g)
             (reached-greater root t list i q.0 on (reached root list i q.0 q.1))
       ]

@@ -1,8 +1,6 @@
 -- White space that is no combinator.
-use Rattle.std.proofs.Common.{◌≡◌, ◌∙◌, ◌⊎◌, ap, sym, subst, refl, inl, inr, ◌&&◌, ◌++◌, if◌then◌else◌, map, List, [], ◌∷◌, Bool, true, false}
-use Rattle.std.proofs.lemmas.Bool.{cases_Bool}
-use Rattle.selectors_model.specs.declared.combinator.Combinator.TheVariants.{Descendant}
-use Rattle.selectors_model.specs.Grammar.{Atom, white, comma, combinator, dot, colon, star, word, whole, function, other, is_white, is_in_compound, begins_compound, with_descendants, members_of, between_commas, selector_of_chain, chain_of}
+use Rattle.std.proofs.Common.{◌≡◌, ap, sym, refl, ◌++◌, map, List, [], ◌∷◌, Bool, true, false}
+use Rattle.selectors_model.specs.Grammar.{Atom, white, comma, combinator, dot, colon, star, word, whole, function, other, is_in_compound, begins_compound, with_descendants, members_of, between_commas, selector_of_chain, chain_of}
 
 -- what is the same with descendants has the same members
 same-members : (cs ds : List Atom) → with_descendants false cs ≡ with_descendants false ds → members_of cs ≡ members_of ds

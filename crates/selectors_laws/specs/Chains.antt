@@ -1,10 +1,9 @@
 -- Matching by a chain of elements, one for each compound (Selectors 4, section 15).
-use Rattle.std.specs.Prelude.{◌≡◌, ◌⊎◌, ℕ, List, [], ◌∷◌, true, false}
+use Rattle.std.specs.Prelude.{◌≡◌, ◌⊎◌, ℕ, true}
 use Rattle.page_model.specs.Document.{Node, IsAmong}
-use Rattle.selectors_model.specs.declared.pseudo_class.PseudoClass.TheVariants.{Unmatched}
 use Rattle.selectors_model.specs.Elements.{left_of}
 use Rattle.selectors_model.specs.Matching.{compound_matches}
-use Rattle.selectors_model.specs.Selectors.{Simple, pseudo_class, pseudo_element, is_pseudo_class, where_pseudo_class, no_selectors, Compound, no_simples, simple, Selector, compound, combined}
+use Rattle.selectors_model.specs.Selectors.{Simple, Compound, no_simples, simple, Selector, compound, combined}
 
 -- there are elements, the last of which is this one, so that each meets its compound by itself, and
 -- each is on the left of the next by the combinator between

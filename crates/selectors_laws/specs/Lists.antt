@@ -1,6 +1,6 @@
 -- Compounds after one another, and what is no part of a compound.
-use Rattle.std.specs.Prelude.{◌≡◌, List, [], ◌∷◌, Option, Some, None, false}
-use Rattle.selectors_model.specs.Selectors.{Compound, no_simples, simple, Selector, SelectorList, no_selectors, selector}
+use Rattle.std.specs.Prelude.{List, [], ◌∷◌, Option, Some, None}
+use Rattle.selectors_model.specs.Selectors.{Compound, no_simples, simple, Selector}
 
 -- a compound, and then more simple selectors
 abbrev pub compounds_joined : Compound → Compound → Compound
