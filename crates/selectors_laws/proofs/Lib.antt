@@ -1,0 +1,4 @@
+pub mod Matched
+pub mod Sums
+pub mod WhiteSpace
+pub mod Forgiving
