@@ -1,15 +1,16 @@
 -- A tree of slots in which one node has other content.
+use Rattle.page_laws.proofs.ChangedLimits.{limits-changed}
 use Rattle.std.proofs.Common.{List, None, Some, [], ap, arith, eq-eqb, eqb-true, inl, inr, is_some, length, ne_eqb, option_and_then, option_map, refl, slice_get, subst, sym, ℕ, ◌==◌, ◌∙◌, ◌≡◌, ◌≤◌}
 use Rattle.std.proofs.lemmas.Bool.{cases_Bool, eqb-false}
 use Rattle.std.proofs.lemmas.Option.{none-some, same_Some}
 use Rattle.page_laws.proofs.Find.{find-id}
 use Rattle.page_laws.proofs.Options.{none-or-some}
-use Rattle.page_laws.proofs.TreeAfterChange.{by_itself-other, children-changed, find-changed, height-changed, id_of-changed, ids-changed, name_of-changed, text_size-changed}
+use Rattle.page_laws.proofs.TreeAfterChange.{by_itself-other, children-changed, find-changed, id_of-changed, ids-changed, name_of-changed, text_size-changed}
 use Rattle.page_laws.specs.Limits.{KeepsGrammar, KeepsLimits, own_text_size}
 use Rattle.page_model.specs.Document.{AreDistinct, Document, IsAmong, Node, by_itself, children_of, element, find, first, id_of, ids, ids_of, text, without_ids}
 use Rattle.page_model.specs.Edits.{tree_after_change}
 use Rattle.page_model.specs.Trees.{Attribute, Text, text_size}
-use Rattle.page_model.specs.declared.limits.TheConstants.{MAX_DEPTH, MAX_NODES, MAX_TEXTS}
+use Rattle.page_model.specs.declared.limits.TheConstants.{MAX_TEXTS}
 use Rattle.dom_arena.proofs.Chains.{chain-same}
 use Rattle.dom_arena.proofs.Docs.{tree-alone}
 use Rattle.dom_arena.proofs.Kept.{chain-dead, chain-same-contents, live-slot-same}
@@ -190,17 +191,6 @@ pub points-edited : (k : Kept) (x i y : ℕ) (f : Content → Content) (points :
 points-edited k x i y f points a t m s e =
     total-edited k x i y f points a t m s e
     ∙ ap text_size (sym (without-renamed (id_at k.slots) (tree_after_change y a t (tree_in k.slots x))) ∙ ap without_ids (root-edited k x i y f points a t m s e))
-
--- the limits that are no matter of texts stay
-limits-changed : (d : Document) (i : ℕ) (a : List Attribute → List Attribute) (t : Text → Text) → KeepsLimits d → KeepsGrammar (tree_after_change i a t d.root)
-    → text_size (without_ids (tree_after_change i a t d.root)) ≤ MAX_TEXTS → KeepsLimits (record { root = tree_after_change i a t d.root; next_id = d.next_id })
-limits-changed d i a t h grammar points = record {
-  grammar = grammar;
-  code_points = points;
-  low = subst (λ (l : ℕ). l ≤ MAX_DEPTH) (sym (height-changed i a t d.root)) h.low;
-  few = subst (λ (xs : List ℕ). length xs ≤ MAX_NODES) (sym (ids-changed i a t d.root)) h.few;
-  given = h.given;
-}
 
 -- the document after the edit
 pub doc-edited : (k : Kept) (x i y : ℕ) (f : Content → Content) (points : ℕ) (a : List Attribute → List Attribute) (t : Text → Text) (m : Node) (s : Slot) → Edited k x i y f points a t m s

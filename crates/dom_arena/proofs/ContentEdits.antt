@@ -18,16 +18,16 @@ use Rattle.dom_arena.proofs.Changed.{Edited, doc-edited, points-edited, smaller-
 use Rattle.dom_arena.proofs.Answered.{answered, cause-same, is-none, named-by, none-holds, none-same, ok-both}
 use Rattle.dom_arena.proofs.NodeAt.{IsAt, at-or-absent, name-at}
 use Rattle.dom_arena.proofs.AttributeSpots.{spot-count, spot-length, spot-size, spot-size-without}
-use Rattle.dom_arena.proofs.ChangedLimits.{dropped-grammar, set-grammar, text-grammar}
+use Rattle.page_laws.proofs.ChangedLimits.{dropped-grammar, set-grammar, text-grammar}
 use Rattle.dom_arena.proofs.Docs.{doc-facts, read-attributes, read-live, read-name}
 use Rattle.dom_arena.proofs.Written.{body-parts}
 use Rattle.dom_arena.specs.Cells.{body_of}
-use Rattle.dom_arena.specs.Contents.{attr_causes, drop_causes, kept_after, kept_changed, name_in_slot, others_of, size_with, size_without, text_causes, total_with, with_attributes}
+use Rattle.dom_arena.specs.Contents.{attr_causes, drop_causes, kept_after, kept_changed, others_of, size_with, size_without, text_causes, total_with, with_attributes}
 use Rattle.dom_arena.specs.Docs.{IsDoc, document_in}
 use Rattle.dom_arena.specs.Faults.{AnswersBy}
 use Rattle.dom_arena.specs.Reading.{tree_in}
 use Rattle.dom_arena.specs.Rename.{rename}
-use Rattle.dom_arena.specs.Slots.{attributes_in, attributes_in_slot, id_at, own_in, table_at}
+use Rattle.dom_arena.specs.Slots.{attributes_in, attributes_in_slot, id_at, name_in_slot, own_in, table_at}
 use Rattle.dom_arena.specs.Spots.{count_with, spot_of}
 use Rattle.dom_arena.specs.Stores.{Kept, slot_by_id}
 use Rattle.dom_arena.specs.declared.fault.DocFault.{DocFault}

@@ -17,10 +17,10 @@ use Rattle.dom_arena.specs.Between.{IsBetween}
 use Rattle.dom_arena.specs.Built.{Built, Restored}
 use Rattle.dom_arena.specs.Cells.{AreLinked, IsLinked, body_of}
 use Rattle.dom_arena.specs.Docs.{HoldsTree, IsDoc, document_in}
-use Rattle.dom_arena.specs.Inserting.{HasRoom, Inserts, element_causes, name_in_slot}
+use Rattle.dom_arena.specs.Inserting.{HasRoom, Inserts, element_causes}
 use Rattle.dom_arena.specs.Reading.{tree_in}
 use Rattle.dom_arena.specs.Rename.{IsAlone, rename}
-use Rattle.dom_arena.specs.Slots.{IsLive, body_at, cells_of, child_number, id_at, place_at, table_at, target}
+use Rattle.dom_arena.specs.Slots.{IsLive, body_at, cells_of, child_number, id_at, name_in_slot, place_at, table_at, target}
 use Rattle.dom_arena.specs.Stores.{IsStore, Kept}
 use Rattle.dom_arena.specs.Taking.{IsDocOf}
 use Rattle.dom_arena.specs.Writes.{attached}

@@ -23,14 +23,13 @@ pub mod Removed
 pub mod Deepest
 pub mod Inserts
 pub mod Changed
-pub mod ChangedLimits
 pub mod Answered
 pub mod NodeAt
 pub mod ContentEdits
 pub mod TextOrder
 pub mod AttributeSpots
 pub mod BehindAll
-pub mod MovedLimits
+pub mod RenamedLimits
 pub mod Within
 pub mod MoveCauses
 pub mod MovedTree

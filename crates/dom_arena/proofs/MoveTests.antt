@@ -13,11 +13,10 @@ use Rattle.dom_arena.proofs.Within.{within-node}
 use Rattle.dom_arena.proofs.Written.{body-parts}
 use Rattle.dom_arena.specs.Cells.{body_of}
 use Rattle.dom_arena.specs.Docs.{IsDoc}
-use Rattle.dom_arena.specs.Inserting.{name_in_slot}
 use Rattle.dom_arena.specs.Moving.{leads_to}
 use Rattle.dom_arena.specs.Reading.{below, tree_in}
 use Rattle.dom_arena.specs.Rename.{rename}
-use Rattle.dom_arena.specs.Slots.{IsLive, cells_of, child_number, id_at, name_in, own_in, target, up_link}
+use Rattle.dom_arena.specs.Slots.{IsLive, cells_of, child_number, id_at, name_in, name_in_slot, own_in, target, up_link}
 use Rattle.dom_arena.specs.Stores.{Kept}
 use Rattle.page_laws.proofs.Find.{find-id}
 use Rattle.page_laws.proofs.FirstOf.{both-false}

@@ -10,7 +10,8 @@ use Rattle.dom_arena.proofs.Hooked.{Relinked, attaches, relinked-attached}
 use Rattle.dom_arena.proofs.Kept.{live-same, live-small, live-within, store-relinked}
 use Rattle.dom_arena.proofs.Loads.{document_of, part-length, tree-doc}
 use Rattle.dom_arena.proofs.MoveCauses.{Passes, passes}
-use Rattle.dom_arena.proofs.MovedLimits.{kept-moved, limits-renamed, limits-unnamed}
+use Rattle.dom_arena.proofs.RenamedLimits.{limits-renamed, limits-unnamed}
+use Rattle.page_laws.proofs.MovedLimits.{kept-moved}
 use Rattle.dom_arena.proofs.Releases.{linked-live}
 use Rattle.dom_arena.proofs.Removed.{HangsAt, HoldsTaken, hangs-at, taken-holds, taken-relinked}
 use Rattle.dom_arena.proofs.Renamed.{find-renamed, inserted-renamed, removed-renamed, rename-same}

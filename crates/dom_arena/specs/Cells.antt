@@ -4,13 +4,14 @@ use Rattle.std.specs.Prelude.{◌≡◌, ℕ, List, [], ◌∷◌, length, Optio
 use Rattle.page_model.specs.Document.{Node, id_of, children_of, ids_of, by_itself, find, first}
 use Rattle.page_laws.specs.Limits.{own_text_size}
 
--- where a node hangs
+-- the links of a node to its parent and to its previous and next sibling
 pub record Place : Type 0 where
   pub up : Option ℕ
   pub before : Option ℕ
   pub after : Option ℕ
 
--- what a node is by itself, the ends of its list of children, how many children it has, and how many code points it has by itself
+-- a node by itself, its links to its first and last child, how many children it has, and how many code
+-- points it has by itself
 pub record Body : Type 0 where
   pub own : Node
   pub first : Option ℕ
@@ -33,7 +34,7 @@ abbrev pub front : List ℕ → Option ℕ → Option ℕ
 front [] next = next
 front (x ∷ xs) next = Some x
 
--- each of these hangs below `up`, between those beside it; `last` stands before them and `next` behind
+-- these are siblings in this order, children of `up`; `last` is the sibling before them and `next` that after
 abbrev pub AreChained : (ℕ → Option Place) → ℕ → Option ℕ → List ℕ → Option ℕ → Type 0
 AreChained place up last [] next = Unit {0}
 AreChained place up last (x ∷ xs) next =
@@ -52,7 +53,7 @@ body_with own children size = record {
 abbrev pub body_of : Node → Body
 body_of n = body_with (by_itself n) (ids_of (children_of n)) (own_text_size n)
 
--- the cells have this node's body, and its children in a chain
+-- the cells have this node's body, and its children linked as siblings
 abbrev pub IsLinked : Cells → Node → Type 0
 IsLinked c n = (c.body (id_of n) ≡ Some (body_of n)) × AreChained c.place (id_of n) None (ids_of (children_of n)) None
 
@@ -71,14 +72,14 @@ with_before o p = record p { before = o }
 abbrev pub with_after : Option ℕ → Place → Place
 with_after o p = record p { after = o }
 
--- the node `t` was hung below `up`, between `last` and `next`
+-- the node `t` became a child of `up`, between the siblings `last` and `next`
 pub record Hooks (old new : ℕ → Option Place) (up t : ℕ) (last next : Option ℕ) : Type 0 where
   pub here : new t ≡ Some (record { up = Some up; before = last; after = next })
   pub before : (j : ℕ) → last ≡ Some j → new j ≡ option_map (with_after (Some t)) (old j)
   pub after : (j : ℕ) → next ≡ Some j → new j ≡ option_map (with_before (Some t)) (old j)
   pub others : (j : ℕ) → (j ≡ t → ⊥) → (last ≡ Some j → ⊥) → (next ≡ Some j → ⊥) → new j ≡ old j
 
--- the node `i` was taken from between `last` and `next`
+-- the node `i` was taken out from between the siblings `last` and `next`
 pub record Unhooks (old new : ℕ → Option Place) (i : ℕ) (last next : Option ℕ) : Type 0 where
   pub before : (j : ℕ) → last ≡ Some j → new j ≡ option_map (with_after next) (old j)
   pub after : (j : ℕ) → next ≡ Some j → new j ≡ option_map (with_before last) (old j)

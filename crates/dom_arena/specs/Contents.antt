@@ -1,5 +1,5 @@
 -- What an edit of a node's own content writes, and why it is refused, by the node's slot.
-use Rattle.std.specs.Prelude.{ℕ, ◌+◌, ◌-◌, ◌||◌, ◌∷◌, List, [], length, nat_lt, not, is_none, is_some, Option, Some, None, slice_get, option_and_then}
+use Rattle.std.specs.Prelude.{ℕ, ◌+◌, ◌-◌, ◌||◌, ◌∷◌, List, [], length, nat_lt, not, is_none, is_some, Option, Some, None, slice_get}
 use Rattle.page_model.specs.Names.{is_name}
 use Rattle.page_model.specs.Refusals.{Causes}
 use Rattle.page_model.specs.Trees.{Attribute, Text, is_long}
@@ -9,7 +9,7 @@ use Rattle.dom_arena.specs.declared.slot.Slot.{Slot}
 use Rattle.dom_arena.specs.declared.slot.Content.{Content}
 use Rattle.dom_arena.specs.declared.slot.Content.TheVariants.{Element, Chars, Free}
 use Rattle.dom_arena.specs.declared.spots.Spot.{Spot}
-use Rattle.dom_arena.specs.Slots.{attributes_in_slot, name_in}
+use Rattle.dom_arena.specs.Slots.{attributes_in_slot, name_in_slot}
 use Rattle.dom_arena.specs.Spots.{count_with, length_at, spot_of}
 use Rattle.dom_arena.specs.Stores.{Kept, size_in}
 use Rattle.dom_arena.specs.Writes.{changed}
@@ -57,10 +57,6 @@ abbrev pub others_of : ℕ → Option Slot → Text → ℕ
 others_of total o name = (total - size_in o) + size_without o name
 
 -- ---- causes of refusals
-
--- the name of the element in a slot
-abbrev pub name_in_slot : Option Slot → Option Text
-name_in_slot o = option_and_then (λ (s : Slot). name_in s.content) o
 
 abbrev pub text_causes : Option Slot → ℕ → Text → Causes
 text_causes o total cs =

@@ -1,20 +1,15 @@
 -- What an insert asks of a document, and what it does to the slots.
-use Rattle.std.specs.Prelude.{◌≡◌, ℕ, ◌+◌, ◌≤◌, ◌∷◌, [], length, Option, Some, None, is_none, option_and_then}
+use Rattle.std.specs.Prelude.{◌≡◌, ℕ, ◌+◌, ◌≤◌, ◌∷◌, [], length, Some, None, is_none}
 use Rattle.page_model.specs.Document.{Document, find, name_at}
 use Rattle.page_model.specs.Edits.{document_after_insert, insert_causes}
 use Rattle.page_model.specs.Refusals.{Causes, first_of}
-use Rattle.page_model.specs.Trees.{Text, Tree, depth, size, text_size}
+use Rattle.page_model.specs.Trees.{Tree, depth, size, text_size}
 use Rattle.page_model.specs.declared.cause.Cause.TheVariants.{NoNode, NotElement}
 use Rattle.page_model.specs.declared.limits.TheConstants.{MAX_DEPTH, MAX_IDS, MAX_NODES, MAX_TEXTS}
 use Rattle.dom_arena.specs.Docs.{IsDoc, document_in}
-use Rattle.dom_arena.specs.Slots.{name_in, table_at}
+use Rattle.dom_arena.specs.Slots.{table_at}
 use Rattle.dom_arena.specs.Stores.{IsStore, Kept}
 use Rattle.dom_arena.specs.Taking.{IsDocOf}
-use Rattle.dom_arena.specs.declared.slot.Slot.{Slot}
-
--- the name of the element in a slot
-abbrev pub name_in_slot : Option Slot → Option Text
-name_in_slot o = option_and_then (λ (s : Slot). name_in s.content) o
 
 -- the node `i` is not there, or no element
 abbrev pub element_causes : ℕ → Document → Causes

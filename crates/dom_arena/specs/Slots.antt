@@ -82,6 +82,10 @@ name_in (Element name attributes) = Some name
 name_in (Chars cs) = None
 name_in (Free next) = None
 
+-- the name of the element in a slot
+abbrev pub name_in_slot : Option Slot → Option Text
+name_in_slot o = option_and_then (λ (s : Slot). name_in s.content) o
+
 -- the attributes of an element; a text has none
 abbrev pub attributes_in : Content → List Attribute
 attributes_in (Element name attributes) = attributes

@@ -8,7 +8,8 @@ use Rattle.dom_arena.specs.declared.slot.Content.{Content}
 use Rattle.dom_arena.specs.declared.slot.Content.TheVariants.{Element, Chars, Free}
 use Rattle.dom_arena.specs.Slots.{target, content_at, id_at, table_at, IsLive}
 
--- the slots, the table by id, the first free slot, and the numbers of live nodes and of their code points
+-- the slots, the table from ids to slots, the first slot of the free list, and the numbers of live nodes and
+-- of their code points
 pub record Kept : Type 0 where
   pub slots : List Slot
   pub table : List Link
@@ -16,7 +17,7 @@ pub record Kept : Type 0 where
   pub live : ℕ
   pub code_points : ℕ
 
--- the free slots, in the order of their links
+-- these slots are the free list, in its order
 abbrev pub FreeChain : List Slot → Option ℕ → List ℕ → Type 0
 FreeChain slots o [] = o ≡ None
 FreeChain slots o (x ∷ xs) =
@@ -63,14 +64,14 @@ leaf id content size = record {
   content = content;
 }
 
--- the free slot after this content
+-- the next slot of the free list, after one with this content
 abbrev pub next_free : Option Content → Link
 next_free None = no_link
 next_free (Some (Free next)) = next
 next_free (Some (Element name attributes)) = no_link
 next_free (Some (Chars cs)) = no_link
 
--- where a new node stands: in the first free slot, or in a new one
+-- the slot of a new node: the first of the free list, or a new one
 abbrev pub spot : List Slot → Option ℕ → ℕ
 spot slots None = length slots
 spot slots (Some x) = x

@@ -14,6 +14,7 @@ use crate::attrs::Attrs;
 use crate::counts::{code_points, value_code_points};
 use crate::link::Link;
 use crate::links::attach;
+use crate::reading::last_of;
 use crate::release::release_tree;
 use crate::slot::{Content, Slot};
 use crate::store::Store;
@@ -21,16 +22,6 @@ use crate::tree::Tree;
 use page_model::MAX_DEPTH;
 use port_core::{NoMemory, Text};
 use std::alloc::Global;
-
-/// Returns the last child of the node in the slot `at`.
-pub fn last_of(slots: &[Slot], at: u32) -> Link
-    ensures { result ≡ last_link (slice_get slots.now at) }
-{
-    match slots.get(at as usize) {
-        Some(slot) => slot.last,
-        None => Link::none(),
-    }
-}
 
 /// Hangs `child` below `parent`, behind all its children.
 fn attach_last(slots: &mut [Slot], parent: u32, child: u32)

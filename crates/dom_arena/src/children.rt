@@ -5,7 +5,7 @@ ghost use Rattle.dom_arena.specs.Reading.{ids_from};
 ghost use Rattle.dom_arena.specs.Slots.{target};
 
 use crate::link::Link;
-use crate::release::next_of;
+use crate::reading::next_of;
 use crate::store::Store;
 use port_core::NodeId;
 use std::marker::Model;

@@ -8,34 +8,19 @@ ghost use Rattle.page_model.specs.declared.limits.TheConstants.{MAX_TEXT, MAX_TE
 ghost use Rattle.dom_arena.specs.declared.slot.Content.TheVariants.{Chars as characters};
 ghost use Rattle.dom_arena.specs.Contents.{kept_after, text_causes, total_with, with_content};
 ghost use Rattle.dom_arena.specs.Faults.{AnswersBy, ChecksBy};
-ghost use Rattle.dom_arena.specs.Slots.{name_in, table_at};
-ghost use Rattle.dom_arena.specs.Stores.{size_in, slot_by_id};
+ghost use Rattle.dom_arena.specs.Slots.{table_at};
+ghost use Rattle.dom_arena.specs.Stores.{slot_by_id};
 ghost use Rattle.dom_arena.specs.Views.{kept};
 ghost use Rattle.dom_arena.specs.Writes.{changed};
 
 use crate::counts::code_points;
 use crate::fault::DocFault;
+use crate::reading::{is_element, size_at};
 use crate::slot::{Content, Slot};
 use crate::store::Store;
 use page_model::{MAX_TEXT, MAX_TEXTS};
 use port_core::{NodeId, Text};
 use std::alloc::Global;
-
-/// Returns the slot of the node `id`.
-pub fn slot_of(store: &Store, id: NodeId) -> Option<u32>
-    ensures { result ≡ table_at store.now.table.items id }
-{
-    store.table.get(id as usize)?.get()
-}
-
-fn is_element(content: &Content) -> bool
-    ensures { result ≡ is_some (name_in content.now) }
-{
-    match content {
-        Content::Element(_, _) => true,
-        Content::Chars(_) | Content::Free(_) => false,
-    }
-}
 
 /// Returns the number of code points of `text`, unless they are too many, by themselves or together
 /// with `others`.
@@ -86,23 +71,13 @@ fn put(slots: &mut [Slot], at: u32, content: Content, size: u32)
     }
 }
 
-/// Returns how many code points the node in the slot `at` has by itself.
-pub fn size_at(slots: &[Slot], at: u32) -> u32
-    ensures { result ≡ size_in (slice_get slots.now at) }
-{
-    match slots.get(at as usize) {
-        Some(slot) => slot.size,
-        None => 0,
-    }
-}
-
 /// Gives the node `id` this content, which has `size` code points.
 fn replace(store: &mut Store, id: NodeId, content: Content, size: u32)
     requires few { total_with store.old.code_points (slot_by_id (kept store.old) id) size ≤ MAX_TEXTS }
     ensures { kept store.new
         ≡ kept_after (kept store.old) (table_at store.old.table.items id) (λ _. content) size }
 {
-    let Some(at) = slot_of(store, id) else {
+    let Some(at) = store.at(id) else {
         return;
     };
     let old = size_at(store.slots.as_slice(), at);

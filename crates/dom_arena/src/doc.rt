@@ -1,16 +1,15 @@
 //! The document (DOM sections 1.1 and 4.2.3).
-ghost use Rattle.std.specs.Prelude.{◌≡◌, ◌≢◌, ◌≤◌, true, IfOk, IfErr, OnOk, OnErr, is_some, encode_utf8_all, option_map};
-ghost use Rattle.page_model.specs.Document.{Node, document, child_ids, children_of, id_of, find, parent_of, first_child_of, next_of, prev_of, name_at, text_at, value_at};
-ghost use Rattle.page_model.specs.Edits.{document_after_drop_attr, document_after_set_attr, document_after_set_text, drop_attr_causes, set_attr_causes, set_text_causes};
-ghost use Rattle.std.specs.Str.{chars};
-ghost use Rattle.page_model.specs.declared.limits.TheConstants.{MAX_NODES};
-ghost use Rattle.page_model.specs.Edits.{document_after_insert, document_after_move, document_after_remove, insert_causes, load_causes, move_causes, remove_causes};
-ghost use Rattle.page_model.specs.Trees.{is_elem};
-ghost use Rattle.page_laws.specs.Limits.{KeepsLimits};
 ghost use Rattle.dom_arena.specs.Docs.{IsDocument};
 ghost use Rattle.dom_arena.specs.Faults.{AnswersBy};
 ghost use Rattle.dom_arena.specs.Found.{AreFound};
 ghost use Rattle.dom_arena.specs.Shape.{shape};
+ghost use Rattle.page_laws.specs.Limits.{KeepsLimits};
+ghost use Rattle.page_model.specs.Document.{Node, child_ids, children_of, document, find, first_child_of, id_of, name_at, next_of, parent_of, prev_of, text_at, value_at};
+ghost use Rattle.page_model.specs.Edits.{document_after_drop_attr, document_after_insert, document_after_move, document_after_remove, document_after_set_attr, document_after_set_text, drop_attr_causes, insert_causes, load_causes, move_causes, remove_causes, set_attr_causes, set_text_causes};
+ghost use Rattle.page_model.specs.Trees.{is_elem};
+ghost use Rattle.page_model.specs.declared.limits.TheConstants.{MAX_NODES};
+ghost use Rattle.std.specs.Prelude.{IfErr, IfOk, OnErr, OnOk, encode_utf8_all, is_some, option_map, true, ◌≡◌, ◌≢◌, ◌≤◌};
+ghost use Rattle.std.specs.Str.{chars};
 
 use crate::build::build;
 use crate::children::Children;
@@ -27,7 +26,8 @@ use port_core::{NoMemory, NodeId};
 use std::alloc::Global;
 use std::marker::Model;
 
-/// A document: a tree of elements and texts, each with an id of its own. An id is never given again.
+/// A document: a tree of elements and texts, each with an id of its own. An id is never given
+/// again.
 ///
 /// Nodes are kept in slots that name each other; the slot of a removed node is taken again.
 #[derive(Debug, Drop)]
@@ -53,12 +53,13 @@ impl Model for Doc {
 }
 
 impl Doc {
-    /// Makes the document of a tree, the nodes of which get the ids from 0 on in document order.
+    /// Makes the document of a tree, the nodes of which get the ids from 0 on in document order
+    /// (DOM section 1.1). Its time and memory are linear in the nodes and code points of the tree.
     ///
     /// # Errors
     ///
-    /// The first limit that the tree would break: `BadName`, `AttrLimit`, `TextLimit`, `DepthLimit`,
-    /// `NodeLimit`, `IdLimit`; or `NoMemory`. Its time is linear in the code points of the tree.
+    /// The first limit that the tree would break, of `BadName`, `AttrLimit`, `TextLimit`,
+    /// `DepthLimit`, `NodeLimit`, `IdLimit`; or `NoMemory`.
     pub fn new(alloc: Global, tree: &Tree) -> Result<Doc, DocFault>
         requires element { is_elem (shape tree.now) ≡ true }
         ensures document { IfOk result (λ doc. doc.document ≡ document (shape tree.now)) }
@@ -68,7 +69,7 @@ impl Doc {
         Ok(load(alloc, tree)?)
     }
 
-    /// Returns the id of the root.
+    /// Returns the id of the root, in constant time (DOM section 1.1).
     pub fn root(&self) -> NodeId
         ensures value { result ≡ id_of self.now.document.root }
         ensures facts { IsDocument self.now.document }
@@ -76,7 +77,8 @@ impl Doc {
         self.store.id_in(self.root)
     }
 
-    /// Returns the id that the next new node gets, which is the number of ids that were given.
+    /// Returns the id that the next new node gets, which is the number of ids that were given, in
+    /// constant time.
     pub fn next_id(&self) -> NodeId
         ensures value { result ≡ self.now.document.next_id }
         ensures facts { IsDocument self.now.document }
@@ -84,14 +86,14 @@ impl Doc {
         self.store.table.len() as NodeId
     }
 
-    /// Returns how many slots are kept, live and free.
+    /// Returns how many slots are kept, live and free, in constant time.
     pub fn slots(&self) -> usize
         ensures { result ≤ MAX_NODES }
     {
         self.store.slots.len()
     }
 
-    /// Whether the document has the node `id`.
+    /// Whether the document has the node `id`; in constant time.
     pub fn is_live(&self, id: NodeId) -> bool
         ensures value { result ≡ is_some (find id self.now.document.root) }
         ensures facts { IsDocument self.now.document }
@@ -99,7 +101,8 @@ impl Doc {
         self.store.slot(id).is_some()
     }
 
-    /// Returns the name of the element `id`.
+    /// Returns the name of the element `id`, or `None` for another node, in constant time (DOM
+    /// section 4.9, localName).
     pub fn tag(&self, id: NodeId) -> Option<&str>
         ensures { option_map (λ s. s.now) result
             ≡ option_map encode_utf8_all (name_at id self.now.document.root) }
@@ -107,7 +110,8 @@ impl Doc {
         reading::name(self.store.slot(id))
     }
 
-    /// Returns the code points of the text `id`.
+    /// Returns the code points of the text `id`, or `None` for another node, in constant time (DOM
+    /// section 4.10, data).
     pub fn text(&self, id: NodeId) -> Option<&str>
         ensures { option_map (λ s. s.now) result
             ≡ option_map encode_utf8_all (text_at id self.now.document.root) }
@@ -115,7 +119,8 @@ impl Doc {
         reading::text(self.store.slot(id))
     }
 
-    /// Returns the value of the attribute `name` of the element `id`.
+    /// Returns the value of the attribute `name` of the element `id` (DOM section 4.9,
+    /// getAttribute). Its time is linear in the names of the element's attributes.
     pub fn attr(&self, id: NodeId, name: &str) -> Option<&str>
         ensures { option_map (λ s. s.now) result
             ≡ option_map encode_utf8_all (value_at (chars name.now) id self.now.document.root) }
@@ -123,14 +128,39 @@ impl Doc {
         reading::value(self.store.slot(id), name)
     }
 
-    /// Returns the first child of the element `id`.
+    /// Returns the first child of the element `id`, in constant time (DOM section 4.4, firstChild).
     pub fn first_child(&self, id: NodeId) -> Option<NodeId>
         ensures { result ≡ first_child_of id self.now.document.root }
     {
         self.store.id_behind(reading::first(self.store.slot(id)))
     }
 
-    /// Returns the ids of the children of the node `id`, in order. A text has none.
+    /// Returns the element that has the node `id` among its children, in constant time (DOM section
+    /// 4.4, parentNode).
+    pub fn parent(&self, id: NodeId) -> Option<NodeId>
+        ensures { result ≡ parent_of id self.now.document.root }
+    {
+        self.store.id_behind(reading::parent(self.store.slot(id)))
+    }
+
+    /// Returns the sibling right after the node `id`, in constant time (DOM section 4.4,
+    /// nextSibling).
+    pub fn next(&self, id: NodeId) -> Option<NodeId>
+        ensures { result ≡ next_of id self.now.document.root }
+    {
+        self.store.id_behind(reading::next(self.store.slot(id)))
+    }
+
+    /// Returns the sibling right before the node `id`, in constant time (DOM section 4.4,
+    /// previousSibling).
+    pub fn prev(&self, id: NodeId) -> Option<NodeId>
+        ensures { result ≡ prev_of id self.now.document.root }
+    {
+        self.store.id_behind(reading::prev(self.store.slot(id)))
+    }
+
+    /// Returns the ids of the children of the node `id`, in order (DOM section 4.4, childNodes). A
+    /// text has none. The call and each step take constant time, and no memory.
     pub fn children(&self, id: NodeId) -> Children<'_>
         ensures children { result ≡ child_ids id self.now.document.root }
         ensures found { (n : Node) → find id self.now.document.root ≡ Some n
@@ -140,56 +170,43 @@ impl Doc {
         Children::from(&self.store, reading::first(at), reading::count(at))
     }
 
-    /// Returns the element that has the node `id` among its children.
-    pub fn parent(&self, id: NodeId) -> Option<NodeId>
-        ensures { result ≡ parent_of id self.now.document.root }
-    {
-        self.store.id_behind(reading::parent(self.store.slot(id)))
-    }
-
-    /// Returns the sibling right after the node `id`.
-    pub fn next(&self, id: NodeId) -> Option<NodeId>
-        ensures { result ≡ next_of id self.now.document.root }
-    {
-        self.store.id_behind(reading::next(self.store.slot(id)))
-    }
-
-    /// Returns the sibling right before the node `id`.
-    pub fn prev(&self, id: NodeId) -> Option<NodeId>
-        ensures { result ≡ prev_of id self.now.document.root }
-    {
-        self.store.id_behind(reading::prev(self.store.slot(id)))
-    }
-
-    /// Puts a new tree below the element `parent`, as its child at `index`, and returns the id of its root.
-    /// The new nodes get the next ids, in document order (DOM section 4.2.3, insert).
+    /// Puts a new tree below the element `parent`, as its child at `index`, and returns the id of
+    /// its root. The new nodes get the next ids, in document order (DOM section 4.2.3, insert).
+    ///
+    /// The links take constant time, and the place of `index` is walked to from the nearer end;
+    /// besides, the time is linear in the level of `parent` and in the nodes and code points of the
+    /// tree. Free slots are taken before new ones; an id takes 4 bytes.
     ///
     /// # Errors
     ///
-    /// `NoNode`; `NotElement`; `BadIndex` where the element has fewer children than `index`; the first limit
-    /// that would be broken: `BadName`, `AttrLimit`, `TextLimit`, `DepthLimit`, `NodeLimit`, `IdLimit`; or
-    /// `NoMemory`. Then nothing has changed. The links of an insert take constant time, the place of
-    /// `index` is walked to from the nearer end, and the tree costs its code points.
+    /// The first of `NoNode`; `NotElement`; `BadIndex` where the element has fewer children than
+    /// `index`; the limits that would be broken: `BadName`, `AttrLimit`, `TextLimit`, `DepthLimit`,
+    /// `NodeLimit`, `IdLimit`; or `NoMemory`. Then nothing has changed.
     pub fn insert(&mut self, parent: NodeId, index: usize, tree: &Tree) -> Result<NodeId, DocFault>
         ensures inserted { OnOk result (self.new.document
             ≡ document_after_insert parent index (shape tree.now) self.old.document) }
         ensures number { IfOk result (λ id. id ≡ self.old.document.next_id) }
-        ensures causes { AnswersBy (insert_causes parent index (shape tree.now) self.old.document) result }
+        ensures causes { AnswersBy (insert_causes parent index (shape tree.now)
+            self.old.document) result }
         ensures kept { OnErr result (self.new ≡ self.old) }
     {
         let at = insert_slot(&self.store, parent, index, tree)?;
-        let id = self.store.table.len() as NodeId;
+        let id = self.next_id();
         insert_tree(&mut self.store, self.alloc, at, index, tree)?;
         Ok(id)
     }
 
-    /// Takes the node `id` out, with all below it; takes no memory (DOM section 4.2.3, remove).
+    /// Takes the node `id` out, with all below it (DOM section 4.2.3, remove).
+    ///
+    /// The links take constant time; the time is linear in the nodes that go. It takes no memory:
+    /// their slots become free, and their ids are not given again.
     ///
     /// # Errors
     ///
-    /// `NoNode`; `IsRoot` for the root. Then nothing has changed.
+    /// The first of `NoNode`; `IsRoot` for the root. Then nothing has changed.
     pub fn remove(&mut self, id: NodeId) -> Result<(), DocFault>
-        ensures removed { OnOk result (self.new.document ≡ document_after_remove id self.old.document) }
+        ensures removed { OnOk result (self.new.document
+            ≡ document_after_remove id self.old.document) }
         ensures causes { AnswersBy (remove_causes id self.old.document) result }
         ensures without_memory { IfErr result (λ e. e ≢ DocFault.NoMemory) }
         ensures kept { OnErr result (self.new ≡ self.old) }
@@ -199,15 +216,21 @@ impl Doc {
         Ok(())
     }
 
-    /// Makes the node `id` the child at `index` of `parent`; `index` counts the children without it.
-    /// Takes no memory (DOM section 4.2.3, remove and insert).
+    /// Makes the node `id` the child at `index` of `parent`; `index` counts the children without it
+    /// (DOM section 4.2.3, remove and insert).
+    ///
+    /// The links take constant time, and the place of `index` is walked to from the nearer end;
+    /// besides, the time is linear in the level of `parent` and in the nodes below `id`. It takes
+    /// no memory.
     ///
     /// # Errors
     ///
-    /// The first of `NoNode`; `IsRoot` for the root; `NotElement` where `parent` is a text; `Cycle` where
-    /// it is the node itself or stands below it; `BadIndex`; `DepthLimit`. Then nothing has changed.
+    /// The first of `NoNode` for either node; `IsRoot` for the root; `NotElement` where `parent` is
+    /// a text; `Cycle` where it is the node itself or stands below it; `BadIndex` where it has
+    /// fewer other children than `index`; `DepthLimit`. Then nothing has changed.
     pub fn move_to(&mut self, id: NodeId, parent: NodeId, index: usize) -> Result<(), DocFault>
-        ensures moved { OnOk result (self.new.document ≡ document_after_move id parent index self.old.document) }
+        ensures moved { OnOk result (self.new.document
+            ≡ document_after_move id parent index self.old.document) }
         ensures causes { AnswersBy (move_causes id parent index self.old.document) result }
         ensures without_memory { IfErr result (λ e. e ≢ DocFault.NoMemory) }
         ensures kept { OnErr result (self.new ≡ self.old) }
@@ -223,30 +246,16 @@ impl Doc {
         Ok(())
     }
 
-    /// Gives the text `id` these code points. (DOM section 4.10, replace data)
-    pub fn set_text(&mut self, id: NodeId, text: &str) -> Result<(), DocFault>
-        ensures set { OnOk result (self.new.document
-            ≡ document_after_set_text id (chars text.now) self.old.document) }
-        ensures causes { AnswersBy (set_text_causes id (chars text.now) self.old.document) result }
-        ensures kept { OnErr result (self.new ≡ self.old) }
-    {
-        contents::set_text(&mut self.store, self.alloc, id, text)
-    }
-
-    /// Takes the attribute `name` from the element `id`, if it is there; takes no memory.
-    /// (DOM section 4.9, removeAttribute)
-    pub fn drop_attr(&mut self, id: NodeId, name: &str) -> Result<(), DocFault>
-        ensures dropped { OnOk result (self.new.document
-            ≡ document_after_drop_attr id (chars name.now) self.old.document) }
-        ensures causes { AnswersBy (drop_attr_causes id self.old.document) result }
-        ensures without_memory { IfErr result (λ e. e ≢ DocFault.NoMemory) }
-        ensures kept { OnErr result (self.new ≡ self.old) }
-    {
-        elements::drop_attr(&mut self.store, id, name)
-    }
-
-    /// Gives the element `id` the attribute `name` with this value, in place of one that is there.
-    /// (DOM section 4.9, setAttribute)
+    /// Gives the element `id` the attribute `name` with this value, in place of one that is there
+    /// (DOM section 4.9, setAttribute).
+    ///
+    /// Its time is linear in the code points of `name`, of `value`, of the value that was there and
+    /// of the names of the element's attributes. It takes memory for a copy of `name` and `value`.
+    ///
+    /// # Errors
+    ///
+    /// The first of `NoNode`; `NotElement`; `BadName`; `TextLimit`; `AttrLimit`; or `NoMemory`.
+    /// Then nothing has changed.
     pub fn set_attr(&mut self, id: NodeId, name: &str, value: &str) -> Result<(), DocFault>
         ensures set { OnOk result (self.new.document
             ≡ document_after_set_attr id (chars name.now) (chars value.now) self.old.document) }
@@ -257,7 +266,49 @@ impl Doc {
         elements::set_attr(&mut self.store, self.alloc, id, name, value)
     }
 
-    /// A document of its own with the same nodes, ids and next id.
+    /// Takes the attribute `name` from the element `id`, if it is there (DOM section 4.9,
+    /// removeAttribute).
+    ///
+    /// Its time is linear in the code points of the names of the element's attributes and of the
+    /// value that goes. It takes no memory.
+    ///
+    /// # Errors
+    ///
+    /// The first of `NoNode`; `NotElement`. Then nothing has changed.
+    pub fn drop_attr(&mut self, id: NodeId, name: &str) -> Result<(), DocFault>
+        ensures dropped { OnOk result (self.new.document
+            ≡ document_after_drop_attr id (chars name.now) self.old.document) }
+        ensures causes { AnswersBy (drop_attr_causes id self.old.document) result }
+        ensures without_memory { IfErr result (λ e. e ≢ DocFault.NoMemory) }
+        ensures kept { OnErr result (self.new ≡ self.old) }
+    {
+        elements::drop_attr(&mut self.store, id, name)
+    }
+
+    /// Gives the text `id` these code points (DOM section 4.10, replace data).
+    ///
+    /// Its time is linear in the code points of `text`. It takes memory for a copy of them.
+    ///
+    /// # Errors
+    ///
+    /// The first of `NoNode`; `NotText`; `TextLimit`; or `NoMemory`. Then nothing has changed.
+    pub fn set_text(&mut self, id: NodeId, text: &str) -> Result<(), DocFault>
+        ensures set { OnOk result (self.new.document
+            ≡ document_after_set_text id (chars text.now) self.old.document) }
+        ensures causes { AnswersBy (set_text_causes id (chars text.now) self.old.document) result }
+        ensures kept { OnErr result (self.new ≡ self.old) }
+    {
+        contents::set_text(&mut self.store, self.alloc, id, text)
+    }
+
+    /// Returns a document of its own with the same nodes, ids and next id.
+    ///
+    /// Its time and memory are linear in the slots, live and free, in the ids that were given and
+    /// in the code points of all names, texts and attributes.
+    ///
+    /// # Errors
+    ///
+    /// `NoMemory` where there is none for the copy.
     pub fn copy(&self, alloc: Global) -> Result<Doc, NoMemory>
         ensures { IfOk result (λ doc. doc ≡ self.now) }
     {

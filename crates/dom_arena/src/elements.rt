@@ -11,9 +11,10 @@ ghost use Rattle.dom_arena.specs.Stores.{size_in, slot_by_id};
 ghost use Rattle.dom_arena.specs.Views.{kept};
 ghost use Rattle.dom_arena.specs.Writes.{changed};
 
-use crate::contents::{check_length, size_at, slot_of};
+use crate::contents::check_length;
 use crate::fault::DocFault;
 use crate::names::is_name;
+use crate::reading::size_at;
 use crate::slot::{Content, Slot};
 use crate::spots::{count_with, length_at, spot_of};
 use crate::store::Store;
@@ -146,7 +147,7 @@ fn write_attr(
         (with_attributes (with_attribute (chars name.now) (chars value.now))) size) }
     ensures kept { OnErr result (kept store.new ≡ kept store.old) }
 {
-    let Some(at) = slot_of(store, id) else {
+    let Some(at) = store.at(id) else {
         return Ok(());
     };
     let old = size_at(store.slots.as_slice(), at);
@@ -161,7 +162,7 @@ fn erase_attr(store: &mut Store, id: NodeId, size: u32, name: &str)
     ensures { kept store.new ≡ kept_after (kept store.old) (table_at store.old.table.items id)
         (with_attributes (without_attribute (chars name.now))) size }
 {
-    let Some(at) = slot_of(store, id) else {
+    let Some(at) = store.at(id) else {
         return;
     };
     let old = size_at(store.slots.as_slice(), at);

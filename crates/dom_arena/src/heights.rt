@@ -8,7 +8,7 @@ ghost use Rattle.dom_arena.specs.Heights.{first_below};
 ghost use Rattle.dom_arena.specs.Slots.{cells_of, place_at, target};
 
 use crate::link::Link;
-use crate::release::next_of;
+use crate::reading::next_of;
 use crate::slot::{Content, Slot};
 use page_model::MAX_NODES;
 

@@ -1,10 +1,10 @@
 //! Putting a new tree below an element (DOM section 4.2.3, insert).
-ghost use Rattle.std.specs.Prelude.{◌≡◌, ℕ, Some, None, IfOk, OnOk, OnErr, is_some, slice_get};
+ghost use Rattle.std.specs.Prelude.{◌≡◌, ℕ, Some, None, IfOk, OnOk, OnErr};
 ghost use Rattle.page_model.specs.Edits.{insert_causes, taken_below};
 ghost use Rattle.page_model.specs.Refusals.{first_of};
 ghost use Rattle.dom_arena.specs.Docs.{IsDoc, document_in};
 ghost use Rattle.dom_arena.specs.Faults.{ChecksBy};
-ghost use Rattle.dom_arena.specs.Inserting.{HasRoom, Inserts, element_causes, name_in_slot};
+ghost use Rattle.dom_arena.specs.Inserting.{HasRoom, Inserts, element_causes};
 ghost use Rattle.dom_arena.specs.Measures.{taken_of};
 ghost use Rattle.dom_arena.specs.Shape.{shape};
 ghost use Rattle.dom_arena.specs.Slots.{table_at};
@@ -17,25 +17,11 @@ use crate::levels::level;
 use crate::limits::{self, Taken};
 use crate::links::attach;
 use crate::places::place;
-use crate::release::children_of;
-use crate::slot::{Content, Slot};
+use crate::reading::{children_of, is_element_at};
 use crate::store::Store;
 use crate::tree::Tree;
 use port_core::{NoMemory, NodeId};
 use std::alloc::Global;
-
-/// Whether an element stands in the slot `at`.
-pub fn is_element(slots: &[Slot], at: u32) -> bool
-    ensures { result ≡ is_some (name_in_slot (slice_get slots.now at)) }
-{
-    match slots.get(at as usize) {
-        Some(slot) => match &slot.content {
-            Content::Element(_, _) => true,
-            Content::Chars(_) | Content::Free(_) => false,
-        },
-        None => false,
-    }
-}
 
 /// Returns the slot of the element `id`.
 pub fn element_slot(store: &Store, id: NodeId) -> Result<u32, DocFault>
@@ -46,7 +32,7 @@ pub fn element_slot(store: &Store, id: NodeId) -> Result<u32, DocFault>
     let Some(at) = store.at(id) else {
         return Err(DocFault::NoNode);
     };
-    if !is_element(store.slots.as_slice(), at) {
+    if !is_element_at(store.slots.as_slice(), at) {
         return Err(DocFault::NotElement);
     }
     Ok(at)

@@ -1,25 +1,14 @@
 //! The level of a node.
-ghost use Rattle.std.specs.Prelude.{◌≡◌, Some, slice_get, ℕ};
+ghost use Rattle.std.specs.Prelude.{◌≡◌, Some, ℕ};
 ghost use Rattle.page_model.specs.Edits.{level};
 ghost use Rattle.dom_arena.specs.Docs.{IsDoc};
 ghost use Rattle.dom_arena.specs.Reading.{tree_in};
-ghost use Rattle.dom_arena.specs.Slots.{IsLive, up_link};
+ghost use Rattle.dom_arena.specs.Slots.{IsLive};
 ghost use Rattle.dom_arena.specs.Views.{kept};
 
-use crate::link::Link;
-use crate::slot::Slot;
+use crate::reading::parent_of;
 use crate::store::Store;
 use page_model::MAX_DEPTH;
-
-/// Returns the parent of the node in the slot `at`.
-pub fn parent_of(slots: &[Slot], at: u32) -> Link
-    ensures { result ≡ up_link (slice_get slots.now at) }
-{
-    match slots.get(at as usize) {
-        Some(slot) => slot.parent,
-        None => Link::none(),
-    }
-}
 
 /// Returns the level of the node in the slot `at` of a document, where the root stands at level 1. Its
 /// time is linear in the level.

@@ -15,11 +15,10 @@ ghost use Rattle.dom_arena.specs.Views.{kept};
 
 use crate::fault::DocFault;
 use crate::heights::height;
-use crate::insert::is_element;
-use crate::levels::{level, parent_of};
+use crate::levels::level;
 use crate::links::attach;
 use crate::places::place;
-use crate::release;
+use crate::reading::{children_of, is_element_at, parent_of};
 use crate::remove::take_out;
 use crate::slot::Slot;
 use crate::store::Store;
@@ -64,7 +63,7 @@ fn children_without(store: &Store, at: u32, parent: u32) -> u32
         → result ≡ child_count parent (tree_after_remove at (tree_in store.now.slots.items x)) }
 {
     let slots = store.slots.as_slice();
-    let (_, count) = release::children_of(slots, parent);
+    let (_, count) = children_of(slots, parent);
     if is_child(slots, at, parent) {
         count.saturating_sub(1)
     } else {
@@ -101,7 +100,7 @@ pub fn check_move(
     if at == root {
         return Err(DocFault::IsRoot);
     }
-    if !is_element(store.slots.as_slice(), parent) {
+    if !is_element_at(store.slots.as_slice(), parent) {
         return Err(DocFault::NotElement);
     }
     if stands_within(store, at, parent) {

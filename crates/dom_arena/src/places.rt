@@ -2,23 +2,12 @@
 ghost use Rattle.std.specs.Prelude.{◌≡◌, ◌≤◌, ◌-◌, List, None, length, ℕ};
 ghost use Rattle.page_model.specs.Document.{Node, children_of, id_of, ids_of};
 ghost use Rattle.dom_arena.specs.Cells.{AreChained, IsLinked, final, front};
-ghost use Rattle.dom_arena.specs.Between.{IsBetween, before_in};
+ghost use Rattle.dom_arena.specs.Between.{IsBetween};
 ghost use Rattle.dom_arena.specs.Slots.{cells_of, place_at, target};
 
-use crate::build::last_of;
 use crate::link::Link;
-use crate::release::{children_of, next_of};
+use crate::reading::{children_of, last_of, next_of, prev_of};
 use crate::slot::Slot;
-
-/// Returns the sibling before the node in the slot `at`.
-fn prev_of(slots: &[Slot], at: u32) -> Link
-    ensures { target result ≡ before_in (place_at slots.now at) }
-{
-    match slots.get(at as usize) {
-        Some(slot) => slot.prev,
-        None => Link::none(),
-    }
-}
 
 /// Returns the siblings before and behind `index`, walked from the first child.
 fn from_front(slots: &[Slot], first: Link, index: usize) -> (Link, Link)

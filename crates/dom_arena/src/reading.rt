@@ -1,10 +1,13 @@
-//! Reading a slot.
-ghost use Rattle.std.specs.Prelude.{◌≡◌, encode_utf8_all, option_map, option_and_then};
+//! Reading a slot: that of a node which may be absent, or one by its number.
+ghost use Rattle.std.specs.Prelude.{◌≡◌, encode_utf8_all, is_some, option_and_then, option_map, slice_get};
 ghost use Rattle.std.specs.Option.{option_copied};
 ghost use Rattle.std.specs.Str.{chars};
 ghost use Rattle.page_model.specs.Attributes.{value_of};
+ghost use Rattle.dom_arena.specs.Between.{before_in};
+ghost use Rattle.dom_arena.specs.Built.{after_in};
+ghost use Rattle.dom_arena.specs.Slots.{attributes_in_slot, child_number, first_link, last_link, name_in, name_in_slot, next_link, place_at, prev_link, target, text_in, up_link};
+ghost use Rattle.dom_arena.specs.Stores.{size_in};
 ghost use Rattle.dom_arena.specs.declared.slot.Slot.{Slot as slot};
-ghost use Rattle.dom_arena.specs.Slots.{child_number, name_in, text_in, attributes_in_slot, first_link, up_link, next_link, prev_link};
 
 use crate::link::Link;
 use crate::slot::{Content, Slot};
@@ -89,5 +92,100 @@ pub fn prev(at: Option<&Slot>) -> Link
     match at {
         Some(slot) => slot.prev,
         None => Link::none(),
+    }
+}
+
+// ---- by the number of the slot
+
+/// Whether it is an element.
+pub fn is_element(content: &Content) -> bool
+    ensures { result ≡ is_some (name_in content.now) }
+{
+    match content {
+        Content::Element(_, _) => true,
+        Content::Chars(_) | Content::Free(_) => false,
+    }
+}
+
+/// Whether an element stands in the slot `at`.
+pub fn is_element_at(slots: &[Slot], at: u32) -> bool
+    ensures { result ≡ is_some (name_in_slot (slice_get slots.now at)) }
+{
+    match slots.get(at as usize) {
+        Some(slot) => is_element(&slot.content),
+        None => false,
+    }
+}
+
+/// Returns how many code points the node in the slot `at` has by itself.
+pub fn size_at(slots: &[Slot], at: u32) -> u32
+    ensures { result ≡ size_in (slice_get slots.now at) }
+{
+    match slots.get(at as usize) {
+        Some(slot) => slot.size,
+        None => 0,
+    }
+}
+
+/// Returns the parent of the node in the slot `at`.
+pub fn parent_of(slots: &[Slot], at: u32) -> Link
+    ensures { result ≡ up_link (slice_get slots.now at) }
+{
+    match slots.get(at as usize) {
+        Some(slot) => slot.parent,
+        None => Link::none(),
+    }
+}
+
+/// Returns the sibling before the node in the slot `at`.
+pub fn prev_of(slots: &[Slot], at: u32) -> Link
+    ensures { target result ≡ before_in (place_at slots.now at) }
+{
+    match slots.get(at as usize) {
+        Some(slot) => slot.prev,
+        None => Link::none(),
+    }
+}
+
+/// Returns the sibling after the node in the slot `at`.
+pub fn next_of(slots: &[Slot], at: u32) -> Link
+    ensures { target result ≡ after_in (place_at slots.now at) }
+{
+    match slots.get(at as usize) {
+        Some(slot) => slot.next,
+        None => Link::none(),
+    }
+}
+
+/// Returns the first child and the number of children of the node in the slot `at`.
+pub fn children_of(slots: &[Slot], at: u32) -> (Link, u32)
+    ensures first { result.0 ≡ first_link (slice_get slots.now at) }
+    ensures count { result.1 ≡ child_number (slice_get slots.now at) }
+{
+    match slots.get(at as usize) {
+        Some(slot) => (slot.first, slot.children),
+        None => (Link::none(), 0),
+    }
+}
+
+/// Returns the last child of the node in the slot `at`.
+pub fn last_of(slots: &[Slot], at: u32) -> Link
+    ensures { result ≡ last_link (slice_get slots.now at) }
+{
+    match slots.get(at as usize) {
+        Some(slot) => slot.last,
+        None => Link::none(),
+    }
+}
+
+/// Returns the links from the slot `at` to the parent and to the siblings before and after it.
+pub fn place_of(slots: &[Slot], at: u32) -> (Link, Link, Link)
+    ensures parent { result.0 ≡ up_link (slice_get slots.now at) }
+    ensures prev { result.1 ≡ prev_link (slice_get slots.now at) }
+    ensures next { result.2 ≡ next_link (slice_get slots.now at) }
+{
+    match slots.get(at as usize) {
+        Some(slot) => (slot.parent, slot.prev, slot.next),
+        None => (Link::none(), Link::none(), Link::none()),
     }
 }

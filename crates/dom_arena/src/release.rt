@@ -1,35 +1,14 @@
 //! Releasing the slots of a node and of all below it.
-ghost use Rattle.std.specs.Prelude.{◌≡◌, length, List, slice_get};
+ghost use Rattle.std.specs.Prelude.{◌≡◌, length, List};
 ghost use Rattle.page_model.specs.Trees.{text_size, text_sizes};
 ghost use Rattle.page_model.specs.Document.{Node, nodes_of, ids, all_ids, without_ids, all_without_ids};
-ghost use Rattle.dom_arena.specs.Slots.{target, place_at, first_link, child_number};
-ghost use Rattle.dom_arena.specs.Built.{Released, IsBranch, AreBranches, after_in};
+ghost use Rattle.dom_arena.specs.Slots.{target};
+ghost use Rattle.dom_arena.specs.Built.{Released, IsBranch, AreBranches};
 ghost use Rattle.dom_arena.specs.Views.{kept};
 
 use crate::link::Link;
-use crate::slot::Slot;
+use crate::reading::{children_of, next_of};
 use crate::store::Store;
-
-/// Returns the sibling after the node in the slot `at`.
-pub fn next_of(slots: &[Slot], at: u32) -> Link
-    ensures { target result ≡ after_in (place_at slots.now at) }
-{
-    match slots.get(at as usize) {
-        Some(slot) => slot.next,
-        None => Link::none(),
-    }
-}
-
-/// Returns the first child and the number of children of the node in the slot `at`.
-pub fn children_of(slots: &[Slot], at: u32) -> (Link, u32)
-    ensures first { result.0 ≡ first_link (slice_get slots.now at) }
-    ensures count { result.1 ≡ child_number (slice_get slots.now at) }
-{
-    match slots.get(at as usize) {
-        Some(slot) => (slot.first, slot.children),
-        None => (Link::none(), 0),
-    }
-}
 
 /// Releases the node in the slot `at` and all below it, at most `levels` deep.
 #[cycle(release)]

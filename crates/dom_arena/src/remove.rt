@@ -1,15 +1,15 @@
 //! Taking a node out of a document (DOM section 4.2.3, remove).
-ghost use Rattle.std.specs.Prelude.{◌≡◌, ◌≢◌, ℕ, Some, IfOk, slice_get};
+ghost use Rattle.std.specs.Prelude.{◌≡◌, ◌≢◌, ℕ, Some, IfOk};
 ghost use Rattle.page_model.specs.Edits.{document_after_remove, remove_causes};
 ghost use Rattle.dom_arena.specs.Docs.{IsDoc, document_in};
 ghost use Rattle.dom_arena.specs.Faults.{ChecksBy};
-ghost use Rattle.dom_arena.specs.Slots.{IsLive, id_at, next_link, prev_link, table_at, up_link};
+ghost use Rattle.dom_arena.specs.Slots.{IsLive, id_at, table_at};
 ghost use Rattle.dom_arena.specs.Taking.{IsDocOf, taken_out};
 ghost use Rattle.dom_arena.specs.Views.{kept};
 
 use crate::fault::DocFault;
-use crate::link::Link;
 use crate::links::detach;
+use crate::reading::place_of;
 use crate::release::release_tree;
 use crate::slot::Slot;
 use crate::store::Store;
@@ -30,18 +30,6 @@ pub fn inner_slot(store: &Store, root: u32, id: NodeId) -> Result<u32, DocFault>
         return Err(DocFault::IsRoot);
     }
     Ok(at)
-}
-
-/// Returns the links from the slot `at` to the parent and to the siblings before and after it.
-fn place_of(slots: &[Slot], at: u32) -> (Link, Link, Link)
-    ensures parent { result.0 ≡ up_link (slice_get slots.now at) }
-    ensures prev { result.1 ≡ prev_link (slice_get slots.now at) }
-    ensures next { result.2 ≡ next_link (slice_get slots.now at) }
-{
-    match slots.get(at as usize) {
-        Some(slot) => (slot.parent, slot.prev, slot.next),
-        None => (Link::none(), Link::none(), Link::none()),
-    }
 }
 
 /// Takes the node in the slot `at` out of its parent's children; its own links stay.

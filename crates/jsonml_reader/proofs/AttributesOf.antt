@@ -1,5 +1,5 @@
 -- How attributes are read from an object's members, one after another.
-use Rattle.std.proofs.Common.{List, None, Option, Some, ap, refl, ℕ, ◌≡◌}
+use Rattle.std.proofs.Common.{List, None, Some, ap, ℕ, ◌≡◌}
 use Rattle.std.specs.Prelude.{option_and_then}
 use Rattle.serde_json.specs.Data.{Data, Members, member}
 use Rattle.page_model.specs.Trees.{Attribute}

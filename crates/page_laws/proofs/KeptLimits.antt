@@ -1,5 +1,5 @@
 -- A document that an edit leaves breaks no limit.
-use Rattle.std.proofs.Common.{Bool, IsSome, List, None, Option, Some, [], ap, arith, false, inl, inr, is_none, length, length-append, ltb-false, nat_lt, refl, sym, true, ℕ, ◌==◌, ◌||◌, ◌∙◌, ◌∷◌, ◌≡◌, ◌≤◌}
+use Rattle.std.proofs.Common.{IsSome, None, Option, Some, [], arith, false, inl, inr, is_none, length, length-append, ltb-false, nat_lt, refl, sym, ℕ, ◌==◌, ◌||◌, ◌∙◌, ◌∷◌, ◌≡◌, ◌≤◌}
 use Rattle.std.proofs.lemmas.Bool.{cases_Bool}
 use Rattle.page_laws.proofs.BrokenLimits.{insert-refused, load-refused}
 use Rattle.page_laws.proofs.Options.{or-false}
@@ -9,10 +9,11 @@ use Rattle.page_laws.specs.Limits.{KeepsLimits, broken_grammar, broken_limits, b
 use Rattle.page_model.specs.Document.{Document, Node, Nodes, all_ids, all_without_ids, document, element, find, height, heights, id_of, ids, name_at, no_nodes, node, node_count, text, without_ids}
 use Rattle.page_model.specs.Edits.{child_count, document_after_insert, document_after_remove, insert_causes, load_causes, nodes_after_remove, taken_below, tree_after_remove, tree_causes}
 use Rattle.page_model.specs.Refusals.{Causes, first_of}
-use Rattle.page_model.specs.Trees.{Attribute, Text, Tree, has_bad_name, has_long_text, has_many_attributes, has_node, have_node, is_badly_named, is_long, text_size, text_sizes}
+use Rattle.page_model.specs.Trees.{Attribute, Text, Tree, has_bad_name, has_long_text, has_many_attributes, is_badly_named, is_long, text_size, text_sizes}
 use Rattle.page_model.specs.declared.limits.TheConstants.{MAX_ATTRIBUTES, MAX_DEPTH, MAX_IDS, MAX_NODES, MAX_TEXTS}
 use Rattle.page_model.specs.declared.cause.Cause.TheVariants.{AttrLimit, BadIndex, BadName, DepthLimit, IdLimit, NoNode, NodeLimit, NotElement, TextLimit}
-use Rattle.page_laws.proofs.FirstOf.{append-none, both-false, first-false}
+use Rattle.page_laws.proofs.TreeAfterRemove.{has_node-removed}
+use Rattle.page_laws.proofs.FirstOf.{append-none, first-false}
 use Rattle.std.specs.List.{list_any}
 
 -- ---- where no limit is broken
@@ -44,7 +45,7 @@ kept-limits d none =
 pub kept-loaded : (t : Tree) → first_of (load_causes t) ≡ None → KeepsLimits (document t)
 kept-loaded t h = kept-limits (document t) (sym (load-refused t) ∙ h)
 
-some-there : (o : Option Text) → is_none o ≡ false → IsSome o
+pub some-there : (o : Option Text) → is_none o ≡ false → IsSome o
 some-there (Some x) h = refl
 some-there None h = absurd (cc)
 
@@ -65,25 +66,6 @@ kept-inserted parent index t d given keeps h =
     (sym (insert-refused parent index t d (place-of_insert parent index t d given h) keeps) ∙ h)
 
 -- ---- less is left after a remove
-
-mutual
-  has_node-removed : (e : Text → List Attribute → Bool) (c : Text → Bool) (i : ℕ) (n : Node) → has_node e c (without_ids n) ≡ false
-      → has_node e c (without_ids (tree_after_remove i n)) ≡ false
-  has_node-removed e c i (element id name attributes children) h =
-      let none = or-false (e name attributes) (have_node e c (all_without_ids children)) h in
-      both-false (e name attributes) (have_node e c (all_without_ids (nodes_after_remove i children))) none.0 (have_node-removed e c i children none.1)
-  has_node-removed e c i (text id cs) h = h
-
-  have_node-removed : (e : Text → List Attribute → Bool) (c : Text → Bool) (i : ℕ) (ns : Nodes) → have_node e c (all_without_ids ns) ≡ false
-      → have_node e c (all_without_ids (nodes_after_remove i ns)) ≡ false
-  have_node-removed e c i no_nodes h = h
-  have_node-removed e c i (node n ns) h =
-      let none = or-false (has_node e c (without_ids n)) (have_node e c (all_without_ids ns)) h in
-      elim (cases_Bool (i == id_of n)) [
-        | inl t ↦ rw t (have_node-removed e c i ns none.1)
-        | inr f ↦ rw f (both-false (has_node e c (without_ids (tree_after_remove i n))) (have_node e c (all_without_ids (nodes_after_remove i ns)))
-            (has_node-removed e c i n none.0) (have_node-removed e c i ns none.1))
-      ]
 
 -- fewer code points, levels and nodes
 mutual

@@ -17,3 +17,5 @@ pub mod TreeAfterMove
 pub mod TreeAfterChange
 pub mod AttributesInOrder
 pub mod AttributesAfterChange
+pub mod MovedLimits
+pub mod ChangedLimits

@@ -132,15 +132,15 @@ fn apply_remove(page: &mut Page, id: u64) -> Result<Accepted, Refusal>
     Ok(Accepted { first: 0, count: 0 })
 }
 
-/// Returns `number` as the id of a node, or refuses it where it is greater than the id of any node.
+/// Returns `number` as an id, or refuses it where it was not given to any node.
 fn node_id(document: &Doc, number: u64) -> Result<NodeId, Refusal>
     ensures id { IfOk result (λ id. id ≡ number) }
-    ensures missing { IfErr result (λ r. (r ≡ no_node) × (find number document.now.document.root ≡ None)) }
+    ensures missing { IfErr result (λ r. (r ≡ no_node)
+        × (find number document.now.document.root ≡ None)) }
 {
-    // What holds of each document: its ids are small.
-    let _root = document.root();
-    match NodeId::try_from(number) {
-        Ok(id) => Ok(id),
-        Err(_) => Err(Refusal::NoNode),
+    if number < document.next_id() as u64 {
+        Ok(number as NodeId)
+    } else {
+        Err(Refusal::NoNode)
     }
 }

@@ -1,3 +1,4 @@
+use Rattle.dom_arena.specs.Slots.{name_in_slot}
 use Rattle.std.proofs.Common.{Bool, [], ap, false, is_none, is_some, le-ltb, lt-ltb, nat_lt, rules, slice_get, sym, true, unwrap_or, ◌+◌, ◌∙◌, ◌∷◌, ◌≡◌, arith}
 use Rattle.page_model.specs.Document.{Node, name_at}
 use Rattle.page_model.specs.Edits.{child_count, height_at, is_within, level, tree_after_remove}
@@ -5,7 +6,6 @@ use Rattle.page_model.specs.Refusals.{first_of}
 use Rattle.page_model.specs.declared.cause.Cause.TheVariants.{DepthLimit}
 use Rattle.page_model.specs.declared.limits.TheConstants.{MAX_DEPTH}
 use Rattle.dom_arena.specs.Reading.{tree_in}
-use Rattle.dom_arena.specs.Inserting.{name_in_slot}
 use Rattle.dom_arena.specs.Stores.{Kept}
 use Rattle.dom_arena.specs.Views.{kept}
 use Rattle.dom_arena.proofs.MoveCauses.{tests-last, tests-past, tests-plain, tests-top, tests-within}
@@ -18,8 +18,8 @@ returns-then-at-root c =
     let n : Node = tree_in k.slots c.args.root in
     ((λ e. cc), tests-top _ _ _ _ _ _ (both-there k c.args.root c.args.at c.args.parent c.requires.doc c.requires.node c.requires.parent) (is-top k c.args.root c.args.at c.requires.doc c.if-at-root.true))
 
-pub returns-then-not-is_element : goal.returns-then-not-is_element
-returns-then-not-is_element c =
+pub returns-then-not-is_element_at : goal.returns-then-not-is_element_at
+returns-then-not-is_element_at c =
     let k : Kept = kept c.args.store.now in
     let n : Node = tree_in k.slots c.args.root in
     let element : is_some (name_in_slot (slice_get k.slots c.args.parent)) ≡ false = search rules in

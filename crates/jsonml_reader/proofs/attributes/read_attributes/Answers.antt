@@ -1,8 +1,8 @@
 -- An attribute more is one more in front of what is left.
-use Rattle.std.proofs.Common.{rules, ◌≡◌, ◌∷◌, sym, ◌∙◌, ap, string_bytes, Some, None}
-use Rattle.page_model.specs.Jsonml.{attributes_of, with_member, with_members}
+use Rattle.std.proofs.Common.{rules, ◌≡◌, ◌∷◌, sym, ◌∙◌, ap, string_bytes, Some}
+use Rattle.page_model.specs.Jsonml.{with_member, with_members}
 use Rattle.serde_json.specs.View.{view, members_view}
-use Rattle.jsonml_reader.proofs.AttributesOf.{with_members-next, with_members-none}
+use Rattle.jsonml_reader.proofs.AttributesOf.{with_members-next}
 use Rattle.jsonml_reader.proofs.attributes.read_attributes.Goals as goal
 
 pub loop-name-preserved : goal.loop-name-preserved

@@ -1,5 +1,5 @@
 //! Rows of texts with their component values (CSS Syntax 3, sections 5.4.7 to 5.4.9).
-use crate::{Component, Token, TokenFault, components, tokenize};
+use css_tokens::{Component, Token, TokenFault, components, tokenize};
 use port_core::NoMemory;
 use std::alloc::Global;
 use std::process::Abort;

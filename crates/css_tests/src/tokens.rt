@@ -1,5 +1,5 @@
 //! Rows of texts with their tokens (CSS Syntax 3, section 4.3).
-use crate::{Bracket, Number, TokenType, tokenize};
+use css_tokens::{Bracket, Number, TokenType, tokenize};
 use std::alloc::{AllocError, Global};
 use std::process::Abort;
 use std::test::Fail;

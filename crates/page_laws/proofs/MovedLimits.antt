@@ -1,23 +1,24 @@
 -- A document in which a node was moved breaks no limit.
-use Rattle.std.proofs.Common.{Bool, List, None, Option, Some, ap, arith, cond, false, inl, inr, length, max, nat_lt, option_map, refl, subst, suc, sym, ℕ, ◌+◌, ◌==◌, ◌∙◌, ◌≡◌, ◌≤◌}
-use Rattle.std.proofs.lemmas.Bool.{cases_Bool}
+use Rattle.page_model.specs.declared.cause.Cause.TheVariants.{BadIndex, Cycle, DepthLimit, IsRoot, NoNode, NotElement}
+use Rattle.page_model.specs.Refusals.{Causes, first_of}
+use Rattle.page_laws.proofs.KeptLimits.{some-there}
+use Rattle.page_laws.proofs.FirstOf.{first-false}
+use Rattle.std.proofs.Common.{Bool, List, None, Option, Some, [], ap, arith, cond, false, inl, inr, is_none, is_some, length, ltb-false, max, nat_lt, option_map, refl, subst, suc, sym, unwrap_or, ℕ, ◌+◌, ◌==◌, ◌||◌, ◌∙◌, ◌∷◌, ◌≡◌, ◌≤◌}
+use Rattle.std.proofs.lemmas.Bool.{cases_Bool, eqb-false, false≢true}
 use Rattle.std.proofs.lemmas.Option.{none-some, same_Some}
 use Rattle.std.specs.List.{list_any}
-use Rattle.dom_arena.proofs.Builds.{map-length}
-use Rattle.dom_arena.proofs.Renamed.{height-renamed, ids-renamed, without-renamed}
-use Rattle.dom_arena.specs.Rename.{rename}
 use Rattle.page_laws.proofs.Find.{find-among}
-use Rattle.page_laws.proofs.IsAmong.{among-rest, among-split, distinct-apart, distinct-left, distinct-right}
-use Rattle.page_laws.proofs.Levels.{level-absent, unlevelled-absent}
-use Rattle.page_laws.proofs.Options.{if-found, none-or-some, or-false, or-found}
+use Rattle.page_laws.proofs.IsAmong.{among-is_among, among-rest, among-split, distinct-apart, distinct-left, distinct-right}
+use Rattle.page_laws.proofs.Levels.{level-absent, level-found, unlevelled-absent}
+use Rattle.page_laws.proofs.Options.{if-found, none-or-some, not-none, or-false, or-found, some-is}
 use Rattle.page_laws.proofs.TreeAfterInsert.{has_node-inserted, height-grown}
 use Rattle.page_laws.proofs.TreeAfterMove.{fits-left, move-is, node_count-moved, parent-stays, text_size-moved}
 use Rattle.page_laws.proofs.TreeAfterRemove.{all_among-kept, among-kept, has_node-removed, height-removed}
-use Rattle.page_laws.specs.Ids.{CanMove}
+use Rattle.page_laws.specs.Ids.{CanMove, HasGivenIds}
 use Rattle.page_laws.specs.Limits.{KeepsLimits}
-use Rattle.page_model.specs.Document.{AreDistinct, Document, IsAmong, Node, Nodes, all_ids, all_without_ids, element, find, find_in, height, id_of, ids, no_nodes, node, text, without_ids}
-use Rattle.page_model.specs.Edits.{document_after_move, level, level_in, nodes_after_remove, tree_after_insert, tree_after_move, tree_after_remove}
-use Rattle.page_model.specs.Trees.{Attribute, Text, has_bad_name, has_long_text, has_many_attributes, has_node, have_node, is_badly_named, is_long, text_size}
+use Rattle.page_model.specs.Document.{AreDistinct, Document, IsAmong, Node, Nodes, all_ids, all_without_ids, element, find, find_in, height, id_of, ids, is_among, name_at, no_nodes, node, text, without_ids}
+use Rattle.page_model.specs.Edits.{child_count, document_after_move, height_at, is_within, level, level_in, move_causes, nodes_after_remove, tree_after_insert, tree_after_move, tree_after_remove}
+use Rattle.page_model.specs.Trees.{Attribute, Text, has_node, have_node, is_badly_named, is_long}
 use Rattle.page_model.specs.declared.limits.TheConstants.{MAX_ATTRIBUTES, MAX_DEPTH}
 
 -- ---- the level of a node that is left after a remove
@@ -109,29 +110,35 @@ kept-moved i parent index l n d m at deep keeps =
       given = keeps.given;
     }
 
--- ---- limits ask nothing of ids
-
-limits-same : (n m : Node) (next : ℕ) → without_ids n ≡ without_ids m → height n ≡ height m → length (ids n) ≡ length (ids m) → KeepsLimits (record { root = m; next_id = next })
-    → KeepsLimits (record { root = n; next_id = next })
-limits-same n m next same high long keeps =
-    let points : text_size (without_ids n) ≡ text_size (without_ids m) = ap text_size same in
-    record {
-      grammar = record {
-        names = ap has_bad_name same ∙ keeps.grammar.names;
-        attributes = ap has_many_attributes same ∙ keeps.grammar.attributes;
-        texts = ap has_long_text same ∙ keeps.grammar.texts;
-      };
-      code_points = omega (arith, points, keeps.code_points);
-      low = omega (arith, high, keeps.low);
-      few = omega (arith, long, keeps.few);
-      given = keeps.given;
-    }
-
-ids-long : (f : ℕ → ℕ) (n : Node) → length (ids (rename f n)) ≡ length (ids n)
-ids-long f n = ap length (ids-renamed f n) ∙ map-length f (ids n)
-
-pub limits-renamed : (f : ℕ → ℕ) (n : Node) (next : ℕ) → KeepsLimits (record { root = n; next_id = next }) → KeepsLimits (record { root = rename f n; next_id = next })
-limits-renamed f n next = limits-same (rename f n) n next (without-renamed f n) (height-renamed f n) (ids-long f n)
-
-pub limits-unnamed : (f : ℕ → ℕ) (n : Node) (next : ℕ) → KeepsLimits (record { root = rename f n; next_id = next }) → KeepsLimits (record { root = n; next_id = next })
-limits-unnamed f n next = limits-same n (rename f n) next (sym (without-renamed f n)) (sym (height-renamed f n)) (sym (ids-long f n))
+-- the limits after a move that no cause refuses
+pub kept-move : (i parent index : ℕ) (d : Document) → HasGivenIds d → KeepsLimits d → first_of (move_causes i parent index d) ≡ None → KeepsLimits (document_after_move i parent index d)
+kept-move i parent index d given keeps h =
+    let root : Node = d.root in
+    let depth : ℕ = unwrap_or (level parent root) 0 + height_at i root in
+    let low : Causes = (nat_lt MAX_DEPTH depth, DepthLimit) ∷ [] in
+    let places : Causes = (nat_lt (child_count parent (tree_after_remove i root)) index, BadIndex) ∷ low in
+    let outside : Causes = (is_within i parent root, Cycle) ∷ places in
+    let elements : Causes = (is_none (name_at parent root), NotElement) ∷ outside in
+    let inner : Causes = (i == id_of root, IsRoot) ∷ elements in
+    let a = first-false (is_none (find i root) || is_none (find parent root)) NoNode inner h in
+    let b = first-false (i == id_of root) IsRoot elements a.1 in
+    let c = first-false (is_none (name_at parent root)) NotElement outside b.1 in
+    let e = first-false (is_within i parent root) Cycle places c.1 in
+    let f = first-false (nat_lt (child_count parent (tree_after_remove i root)) index) BadIndex low e.1 in
+    let g = first-false (nat_lt MAX_DEPTH depth) DepthLimit [] f.1 in
+    let there = or-false (is_none (find i root)) (is_none (find parent root)) a.0 in
+    let n = not-none (find i root) there.0 in
+    let p = not-none (find parent root) there.1 in
+    let l = some-is (level parent root) (level-found parent root ∙ ap is_some p.1) in
+    let at : unwrap_or (level parent root) 0 ≡ l.0 = ap (λ o. unwrap_or o 0) l.1 in
+    let high : height_at i root ≡ height n.0 = ap (λ o. unwrap_or (option_map height o) 0) n.1 in
+    let deep : depth ≤ MAX_DEPTH = ltb-false MAX_DEPTH depth g.0 in
+    let within : is_within i parent root ≡ is_among parent (ids n.0) = ap (λ o. unwrap_or (option_map (λ (x : Node). is_among parent (ids x)) o) false) n.1 in
+    let can : CanMove i parent n.0 root = record {
+      distinct = given.0;
+      found = n.1;
+      not_root = eqb-false i (id_of root) b.0;
+      element = some-there (name_at parent root) c.0;
+      outside = λ x. false≢true (sym e.0 ∙ (within ∙ among-is_among parent (ids n.0) x));
+    } in
+    kept-moved i parent index l.0 n.0 d can l.1 (omega (arith, at, high, deep)) keeps

@@ -1,8 +1,8 @@
 //! What lines ask for: each kind of answer once.
-use crate::{Asked, Edit, Request, ask};
 use dom_arena::Tree;
 use page_model::Cause;
 use port_core::NoMemory;
+use relayout_requests::{Asked, Edit, Request, ask};
 use request_model::Query;
 use std::alloc::Global;
 use std::process::Abort;

@@ -1,5 +1,5 @@
-use crate::{TreeFault, read_tree};
 use dom_arena::Tree;
+use jsonml_reader::{TreeFault, read_tree};
 use serde_json::Value;
 use std::alloc::{AllocError, Global};
 use std::test::Fail;

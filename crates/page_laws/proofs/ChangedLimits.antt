@@ -1,19 +1,23 @@
--- The limits on what each node has, after the content of one node became another.
-use Rattle.std.proofs.Common.{Bool, List, None, Some, [], ap, arith, cond, eq-eqb, eqb-true, false, inl, inr, le-ltb, length, ltb-false, nat_lt, not, refl, subst, true, ℕ, ◌==◌, ◌||◌, ◌∙◌, ◌∷◌, ◌≡◌, ◌≤◌}
-use Rattle.std.proofs.lemmas.Bool.{cases_Bool}
+-- A document in which the content of a node was changed breaks no limit.
+use Rattle.page_model.specs.declared.cause.Cause.TheVariants.{AttrLimit, BadName, NoNode, NotElement, NotText, TextLimit}
+use Rattle.page_model.specs.Refusals.{Causes, first_of}
+use Rattle.page_laws.specs.Ids.{HasGivenIds}
+use Rattle.page_laws.proofs.FirstOf.{first-false}
+use Rattle.std.proofs.Common.{Bool, List, None, Some, [], ap, arith, cond, eq-eqb, eqb-true, false, inl, inr, is_none, is_some, le-ltb, length, ltb-false, nat_lt, not, refl, subst, sym, true, ℕ, ◌==◌, ◌||◌, ◌∙◌, ◌∷◌, ◌≡◌, ◌≤◌}
+use Rattle.std.proofs.lemmas.Bool.{cases_Bool, false≢true}
 use Rattle.std.proofs.lemmas.Option.{none-some, same_Some}
 use Rattle.std.specs.List.{list_any}
 use Rattle.page_laws.proofs.Find.{find-id, found-absent, unfound-absent}
 use Rattle.page_laws.proofs.IsAmong.{distinct-left, distinct-right}
-use Rattle.page_laws.proofs.Options.{if-found, or-false, or-found}
-use Rattle.page_laws.proofs.TreeAfterChange.{changed-absent, has_node-changed, nodes_changed-absent}
-use Rattle.page_laws.specs.Limits.{KeepsGrammar}
+use Rattle.page_laws.proofs.Options.{if-found, not-none, or-false, or-found}
+use Rattle.page_laws.proofs.TreeAfterChange.{attributes_at-found, changed-absent, has_node-changed, height-changed, ids-changed, nodes_changed-absent}
+use Rattle.page_laws.specs.Limits.{KeepsGrammar, KeepsLimits}
 use Rattle.page_model.specs.Attributes.{is_less_text, is_same_text, with_attribute, without_attribute}
-use Rattle.page_model.specs.Document.{AreDistinct, IsAmong, Node, Nodes, all_ids, all_without_ids, attributes_of, element, find, find_in, id_of, ids, no_nodes, node, text, without_ids}
-use Rattle.page_model.specs.Edits.{nodes_after_change, tree_after_change, tree_after_drop_attr, tree_after_set_attr, tree_after_set_text}
+use Rattle.page_model.specs.Document.{AreDistinct, Document, IsAmong, Node, Nodes, all_ids, all_without_ids, attributes_at, attributes_of, element, find, find_in, id_of, ids, name_at, no_nodes, node, text, without_ids}
+use Rattle.page_model.specs.Edits.{document_after_drop_attr, document_after_set_attr, document_after_set_text, is_over_text_limit, nodes_after_change, set_attr_causes, set_text_causes, tree_after_change, tree_after_drop_attr, tree_after_set_attr, tree_after_set_text}
 use Rattle.page_model.specs.Names.{is_name}
-use Rattle.page_model.specs.Trees.{Attribute, Text, has_node, have_node, is_badly_named, is_long}
-use Rattle.page_model.specs.declared.limits.TheConstants.{MAX_ATTRIBUTES}
+use Rattle.page_model.specs.Trees.{Attribute, Text, has_node, have_node, is_badly_named, is_long, text_size, text_sizes, value_size}
+use Rattle.page_model.specs.declared.limits.TheConstants.{MAX_ATTRIBUTES, MAX_DEPTH, MAX_NODES, MAX_TEXTS}
 
 pub or-both : (a b : Bool) → a ≡ false → b ≡ false → (a || b) ≡ false
 or-both a b h k = rw (h, k) refl
@@ -136,3 +140,85 @@ set-grammar i name value r x d f good short few g = record {
   texts = has_node-changed (λ _ xs. list_any (λ (a : Attribute). is_long a.1) xs) is_long i (with_attribute name value) (λ cs. cs) r
       (λ _ xs h. any-with (λ (a : Attribute). is_long a.1) name value xs short h) (λ _ h. h) g.texts;
 }
+
+-- ---- documents
+
+-- the limits that are no matter of texts stay
+pub limits-changed : (d : Document) (i : ℕ) (a : List Attribute → List Attribute) (t : Text → Text) → KeepsLimits d → KeepsGrammar (tree_after_change i a t d.root)
+    → text_size (without_ids (tree_after_change i a t d.root)) ≤ MAX_TEXTS → KeepsLimits (record { root = tree_after_change i a t d.root; next_id = d.next_id })
+limits-changed d i a t h grammar points = record {
+  grammar = grammar;
+  code_points = points;
+  low = subst (λ (l : ℕ). l ≤ MAX_DEPTH) (sym (height-changed i a t d.root)) h.low;
+  few = subst (λ (xs : List ℕ). length xs ≤ MAX_NODES) (sym (ids-changed i a t d.root)) h.few;
+  given = h.given;
+}
+
+pub kept-text : (i : ℕ) (cs : Text) (d : Document) → KeepsLimits d → first_of (set_text_causes i cs d) ≡ None → KeepsLimits (document_after_set_text i cs d)
+kept-text i cs d keeps h =
+    let after : Node = tree_after_set_text i cs d.root in
+    let long : Causes = (is_long cs || is_over_text_limit after, TextLimit) ∷ [] in
+    let a = first-false (is_none (find i d.root)) NoNode ((is_some (name_at i d.root), NotText) ∷ long) h in
+    let b = first-false (is_some (name_at i d.root)) NotText long a.1 in
+    let c = first-false (is_long cs || is_over_text_limit after) TextLimit [] b.1 in
+    let parts = or-false (is_long cs) (is_over_text_limit after) c.0 in
+    limits-changed d i (λ xs. xs) (λ _. cs) keeps (text-grammar i cs d.root parts.0 keeps.grammar) (ltb-false MAX_TEXTS (text_size (without_ids after)) parts.1)
+
+value-without : (name : Text) (xs : List Attribute) → value_size (without_attribute name xs) ≤ value_size xs
+value-without name [] = omega arith
+value-without name (a ∷ xs) =
+    let rest = value-without name xs in
+    elim (cases_Bool (is_same_text name a.0)) [
+      | inl t ↦ rw t (omega (arith, rest))
+      | inr f ↦ rw f (omega (arith, rest))
+    ]
+
+mutual
+  less-dropped : (i : ℕ) (name : Text) (n : Node) → text_size (without_ids (tree_after_drop_attr i name n)) ≤ text_size (without_ids n)
+  less-dropped i name (element id tag attributes children) =
+      let own = value-without name attributes in
+      let below = all-less-dropped i name children in
+      elim (cases_Bool (i == id)) [
+        | inl t ↦ rw t (omega (arith, own, below))
+        | inr f ↦ rw f (omega (arith, below))
+      ]
+  less-dropped i name (text id cs) = elim (cases_Bool (i == id)) [
+    | inl t ↦ rw t (omega arith)
+    | inr f ↦ rw f (omega arith)
+  ]
+
+  all-less-dropped : (i : ℕ) (name : Text) (ns : Nodes)
+      → text_sizes (all_without_ids (nodes_after_change i (without_attribute name) (λ cs. cs) ns)) ≤ text_sizes (all_without_ids ns)
+  all-less-dropped i name no_nodes = omega arith
+  all-less-dropped i name (node n ns) =
+      let head = less-dropped i name n in
+      let rest = all-less-dropped i name ns in
+      omega (arith, head, rest)
+
+pub kept-dropped : (i : ℕ) (name : Text) (d : Document) → KeepsLimits d → KeepsLimits (document_after_drop_attr i name d)
+kept-dropped i name d keeps =
+    let less = less-dropped i name d.root in
+    limits-changed d i (without_attribute name) (λ cs. cs) keeps (dropped-grammar i name d.root keeps.grammar) (omega (arith, less, keeps.code_points))
+
+not-false : (b : Bool) → not b ≡ false → b ≡ true
+not-false true h = refl
+not-false false h = absurd (false≢true (sym h))
+
+pub kept-set : (i : ℕ) (name value : Text) (d : Document) → HasGivenIds d → KeepsLimits d → first_of (set_attr_causes i name value d) ≡ None → KeepsLimits (document_after_set_attr i name value d)
+kept-set i name value d given keeps h =
+    let after : Node = tree_after_set_attr i name value d.root in
+    let count : ℕ = length (with_attribute name value (attributes_at i d.root)) in
+    let many : Causes = (nat_lt MAX_ATTRIBUTES count, AttrLimit) ∷ [] in
+    let long : Causes = (is_long value || is_over_text_limit after, TextLimit) ∷ many in
+    let bad : Causes = (not (is_name name), BadName) ∷ long in
+    let a = first-false (is_none (find i d.root)) NoNode ((is_none (name_at i d.root), NotElement) ∷ bad) h in
+    let b = first-false (is_none (name_at i d.root)) NotElement bad a.1 in
+    let c = first-false (not (is_name name)) BadName long b.1 in
+    let e = first-false (is_long value || is_over_text_limit after) TextLimit many c.1 in
+    let f = first-false (nat_lt MAX_ATTRIBUTES count) AttrLimit [] e.1 in
+    let parts = or-false (is_long value) (is_over_text_limit after) e.0 in
+    let x = not-none (find i d.root) a.0 in
+    let few : nat_lt MAX_ATTRIBUTES (length (with_attribute name value (attributes_of x.0))) ≡ false =
+    ap (λ xs. nat_lt MAX_ATTRIBUTES (length (with_attribute name value xs))) (sym (attributes_at-found i d.root x.0 x.1)) ∙ f.0 in
+    limits-changed d i (with_attribute name value) (λ cs. cs) keeps (set-grammar i name value d.root x.0 given.0 x.1 (not-false (is_name name) c.0) parts.0 few keeps.grammar)
+    (ltb-false MAX_TEXTS (text_size (without_ids after)) parts.1)
