@@ -3,3 +3,4 @@ pub mod Ends
 pub mod Marks
 pub mod Values
 pub mod Texts
+pub mod FoundRules

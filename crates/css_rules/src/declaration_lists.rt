@@ -14,7 +14,8 @@ use crate::classes::{into_ident, is_at_keyword, is_semicolon, is_whitespace};
 use crate::declaration::{Declaration, Declarations};
 use crate::important::take_important;
 use crate::lists::trim_end;
-use css_tokens::{Component, Components, TokenFault, components, tokenize};
+use crate::text_components::components_of;
+use css_tokens::{Component, Components, TokenFault};
 use port_core::{NoMemory, Seq, Text};
 use std::alloc::Global;
 
@@ -25,8 +26,7 @@ use std::alloc::Global;
 pub fn parse_style_attr(alloc: Global, text: &str) -> Result<Declarations, NoMemory>
     ensures { IfOk result (λ ds. declarations_view ds ≡ style_attr_of (chars text.now)) }
 {
-    let tokens = tokenize(alloc, text)?;
-    match components(alloc, &tokens) {
+    match components_of(alloc, text) {
         Ok(components) => declarations_in(alloc, components),
         Err(TokenFault::TooDeep) => Ok(Seq::new(alloc)),
         Err(TokenFault::NoMemory) => Err(NoMemory),

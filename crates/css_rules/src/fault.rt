@@ -1,9 +1,7 @@
 //! Why a style sheet could not be read.
-ghost use Rattle.css_rules.specs.Faults.{sheet_fault};
 ghost use Rattle.css_rules.specs.declared.fault.SheetFault.TheVariants.{NoMemory as no_memory};
 ghost use Rattle.std.specs.Prelude.{◌≡◌};
 
-use css_tokens::TokenFault;
 use port_core::NoMemory;
 use thiserror::Error;
 
@@ -29,16 +27,5 @@ impl From<NoMemory> for SheetFault {
 
     fn from(_e: NoMemory) -> SheetFault {
         SheetFault::NoMemory
-    }
-}
-
-impl From<TokenFault> for SheetFault {
-    ghost from_gives = { λ fault e. e ≡ sheet_fault fault };
-
-    fn from(fault: TokenFault) -> SheetFault {
-        match fault {
-            TokenFault::NoMemory => SheetFault::NoMemory,
-            TokenFault::TooDeep => SheetFault::TooDeep,
-        }
     }
 }

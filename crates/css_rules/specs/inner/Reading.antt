@@ -1,7 +1,7 @@
 -- Component values that are read from the front, and their parts.
-use Rattle.std.specs.Prelude.{◌≡◌, ℕ, suc, ◌&&◌, if◌then◌else◌, List, [], ◌∷◌, ◌++◌, fold, take, Option, Some, None, Bool, true, false}
+use Rattle.std.specs.Prelude.{◌≡◌, ℕ, suc, ◌+◌, ◌&&◌, if◌then◌else◌, List, [], ◌∷◌, ◌++◌, fold, take, Option, Some, None, Bool, true, false}
 use Rattle.std.specs.Option.{MatchOption}
-use Rattle.css_model.specs.Components.{Component, Components, no_components, component}
+use Rattle.css_model.specs.Components.{Component, preserved, simple_block, function_block, Components, no_components, component}
 use Rattle.css_tokens.specs.declared.component.Component as code
 use Rattle.css_tokens.specs.Nested.{component_view, components_view}
 use Rattle.rules_model.specs.ComponentLists.{is_token, is_semicolon, is_curly_block, are_whitespace}
@@ -21,6 +21,17 @@ left_of a = stacked a.stack
 abbrev pub count : Components → ℕ
 count no_components = 0
 count (component c cs) = suc (count cs)
+
+-- how many tokens, blocks and functions these are, with those in blocks and functions
+abbrev mutual
+  pub size : Component → ℕ
+  size (preserved t) = 1
+  size (simple_block head contents close) = suc (total contents)
+  size (function_block head contents close) = suc (total contents)
+
+  pub total : Components → ℕ
+  total no_components = 0
+  total (component c cs) = size c + total cs
 
 -- what the next one, if there is one, tells of all that were ahead
 abbrev pub IsNext : Option code.Component → Components → Components → Type 0
