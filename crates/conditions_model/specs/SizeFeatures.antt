@@ -95,7 +95,8 @@ abbrev pub ratio_from : Option ℤ → Option ℤ → Option FeatureValue
 ratio_from (Some across) (Some down) = Some (ratio_value across down)
 ratio_from across down = None
 
--- `<ratio>`: a number, or two with `/` (CSS Values 4, section 5.7)
+-- `<ratio>`: a number, or two with `/`; a number alone is divided by 1, a million millionths (CSS Values
+-- 4, section 5.7)
 abbrev pub ratio_of : Components → Option FeatureValue
 ratio_of (component a no_components) = ratio_from (ratio_number a) (Some MILLIONTHS_PER_PIXEL)
 ratio_of (component a (component slash (component b no_components))) =
