@@ -30,7 +30,7 @@ tree = element 0 (codes "a") []
 -- classes and ids
 abbrev pub classes : Node
 classes = element 0 (codes "a") []
-    (node (element 1 (codes "b") ((codes "class", codes "x y") ∷ []) no_nodes)
+    (node (element 1 (codes "b") ((codes "class", codes "x y") ∷ (codes "id", codes "x y") ∷ []) no_nodes)
     (node (element 2 (codes "b") ((codes "class", codes "xy") ∷ (codes "id", codes "x") ∷ []) no_nodes)
     (node (element 3 (codes "b") ((codes "class", codes "x\tz") ∷ []) no_nodes)
     (node (element 4 (codes "b") ((codes "class", 120 ∷ 160 ∷ 121 ∷ []) ∷ []) no_nodes)
