@@ -10,11 +10,11 @@ use Rattle.selectors_model.specs.Specificity.{count_sum, spec, spec_sum, is_less
 use Rattle.selectors_laws.specs.Lists.{compounds_joined}
 use Rattle.selectors_laws.specs.Members.{IsMember}
 
-if-true : {X : Type 0} (b : Bool) (x y : X) → b ≡ true → (if b then x else y) ≡ x
+pub if-true : {X : Type 0} (b : Bool) (x y : X) → b ≡ true → (if b then x else y) ≡ x
 if-true true x y e = refl
 if-true false x y e = cc
 
-if-false : {X : Type 0} (b : Bool) (x y : X) → b ≡ false → (if b then x else y) ≡ y
+pub if-false : {X : Type 0} (b : Bool) (x y : X) → b ≡ false → (if b then x else y) ≡ y
 if-false true x y e = cc
 if-false false x y e = refl
 

@@ -3,6 +3,7 @@
 //! Nothing builds on this crate.
 #![tactic(auto)]
 
+pub mod an_plus_b;
 pub mod grammar;
 pub mod matching;
 pub mod specificity;

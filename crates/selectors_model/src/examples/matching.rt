@@ -90,8 +90,8 @@ pub fn positions()
     ensures root_of_type { matched_by tree (codes ":root:nth-last-of-type(1)") ≡ Some (0 ∷ []) }
 {}
 
-/// An `a` (0) with `b` of the class `x y` (1), of `xy` and the id `x` (2), of `x`, tab, `z` (3), of `x`, U+00A0,
-/// `y` (4), of an empty class and id (5).
+/// An `a` (0) with `b` of the class `x y` and the id `x y` (1), of `xy` and the id `x` (2), of `x`,
+/// tab, `z` (3), of `x`, U+00A0, `y` (4), of an empty class and id (5).
 #[tactic(auto, unfolding(css_model::specs::inner::Nesting::levels_of, css_model::specs::inner::Pieces::pieces_after, css_model::specs::inner::Fronts::parts_after))]
 pub fn classes()
     ensures in_a_list { matched_by classes (codes ".x") ≡ Some (1 ∷ 3 ∷ []) }
@@ -107,7 +107,8 @@ pub fn classes()
     ensures presence { matched_by classes (codes "[class]") ≡ Some (1 ∷ 2 ∷ 3 ∷ 4 ∷ 5 ∷ []) }
     ensures absence { matched_by classes (codes ":not([class])") ≡ Some (0 ∷ []) }
     ensures presence_in_its_case { matched_by classes (codes "[CLASS]") ≡ Some ([]) }
-    ensures empty_presence { matched_by classes (codes "[id]") ≡ Some (2 ∷ 5 ∷ []) }
+    ensures empty_presence { matched_by classes (codes "[id]") ≡ Some (1 ∷ 2 ∷ 5 ∷ []) }
+    ensures id_by_words { matched_by classes (codes "[id~=x]") ≡ Some (1 ∷ 2 ∷ []) }
 {}
 
 /// White space between words is ASCII's: of `x`, then U+000A, U+000C, U+000D, U+0020, U+000B and `y`.
