@@ -17,7 +17,7 @@ use Rattle.std.specs.Option.{is_some, unwrap_or}
 use Rattle.std.specs.Prelude.{Option, Some, None}
 use Rattle.css_laws.proofs.SingleTypes.{NoOther, single-no_other, single-is}
 use Rattle.css_model.proofs.FirstNames.{some-text}
-use Rattle.css_model.proofs.FirstNumbers.{numeral-unjoined}
+use Rattle.css_model.proofs.NumeralLemmas.{numeral-unjoined}
 use Rattle.css_model.proofs.FirstStrings.{first_or}
 use Rattle.css_model.proofs.NumberSizes.{some-length, fraction-length}
 use Rattle.css_laws.proofs.Meets.{Meets, meet}

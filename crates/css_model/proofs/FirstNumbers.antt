@@ -9,7 +9,7 @@ use Rattle.css_model.specs.inner.Fronts.{one_in, run_in, begins_unsigned, would_
 use Rattle.css_model.proofs.Tests.{and-left, and-right, both, or-cases, not-false, pick-true, pick-false}
 use Rattle.css_model.proofs.Runs.{Runs, runs}
 use Rattle.css_model.proofs.PartLemmas.{one_in-joins}
-use Rattle.css_model.proofs.NumeralLemmas.{digit-no_sign}
+use Rattle.css_model.proofs.NumeralLemmas.{digit-no_sign, with_mark, without_exponent, numeral-unjoined}
 
 -- ---- the sign
 
@@ -67,17 +67,8 @@ exponent-in s w f (c ∷ cs) =
     let left : Text = drop (length es) cs in
     let digits : Text = run_in is_digit left in
     let r : Runs is_digit left = runs is_digit left in
-    let long : Numeral =
-    record {
-      sign = s;
-      integer = w;
-      fraction = f;
-      mark = c ∷ [];
-      exponent_sign = es;
-      exponent = digits;
-    } in
-    let short : Numeral =
-    record { sign = s; integer = w; fraction = f; mark = []; exponent_sign = []; exponent = [] } in
+    let long : Numeral = with_mark s w f c cs in
+    let short : Numeral = without_exponent s w f in
     cond_both (begins_exponent (c ∷ cs)) long short (λ n. Exponent n (c ∷ cs))
     (λ t.
     let some : is_empty digits ≡ false =
@@ -102,20 +93,8 @@ pub with_exponent-parts : (s w f cs : Text) → (P : Text → Text → Text → 
     → P (with_exponent s w f cs).sign (with_exponent s w f cs).integer (with_exponent s w f cs).fraction
 with_exponent-parts s w f [] P h = h
 with_exponent-parts s w f (c ∷ cs) P h =
-    let es : Text = one_in is_sign cs in
-    let digits : Text = run_in is_digit (drop (length es) cs) in
-    let long : Numeral =
-    record {
-      sign = s;
-      integer = w;
-      fraction = f;
-      mark = c ∷ [];
-      exponent_sign = es;
-      exponent = digits;
-    } in
-    let short : Numeral =
-    record { sign = s; integer = w; fraction = f; mark = []; exponent_sign = []; exponent = [] } in
-    cond_both (begins_exponent (c ∷ cs)) long short (λ n. P n.sign n.integer n.fraction) (λ t. h) (λ n. h)
+    cond_both (begins_exponent (c ∷ cs)) (with_mark s w f c cs) (without_exponent s w f)
+    (λ n. P n.sign n.integer n.fraction) (λ t. h) (λ n. h)
 
 -- ---- the fraction
 
@@ -157,14 +136,6 @@ some-digit (c ∷ cs) h =
           (and-left (c == full_stop) (begins is_digit cs) p))
           ∙ run-some is_digit cs (and-right (c == full_stop) (begins is_digit cs) p)
     ])
-
-pub numeral-unjoined : (w : Numeral) (rest : Text)
-    → numeral_text w ++ rest
-    ≡ w.sign ++ (w.integer ++ (fraction_text w.fraction ++ (exponent_text w ++ rest)))
-numeral-unjoined w rest =
-    append_assoc w.sign (w.integer ++ (fraction_text w.fraction ++ exponent_text w)) rest
-    ∙ ap (λ xs. w.sign ++ xs) (append_assoc w.integer (fraction_text w.fraction ++ exponent_text w) rest
-    ∙ ap (λ xs. w.integer ++ xs) (append_assoc (fraction_text w.fraction) (exponent_text w) rest))
 
 -- the number in front of a text, and what is after it
 pub record Numbers (w : Numeral) (cs : Text) : Type 0 where

@@ -10,8 +10,7 @@ use Rattle.css_model.specs.inner.Fronts.{one_in, run_in, fraction_in, with_expon
 use Rattle.css_model.proofs.Tests.{and-left, and-right, both, or-left, or-right, or-cases, not-true, pick-true, pick-false}
 use Rattle.css_model.proofs.Runs.{run_in-is}
 use Rattle.css_model.proofs.PartLemmas.{one_in-none}
-use Rattle.css_model.proofs.NumeralLemmas.{digit-no_sign, Unsigned, unsigned}
-use Rattle.css_model.proofs.FirstNumbers.{numeral-unjoined}
+use Rattle.css_model.proofs.NumeralLemmas.{digit-no_sign, Unsigned, unsigned, without_exponent, with_digits, with_mark, numeral-unjoined}
 
 -- ---- the sign
 
@@ -61,60 +60,22 @@ exponent-sign es (d ∷ ds) rest s a n = ap (one_in is_sign) (append_assoc es (d
 pub exponent-long : (s w f : Text) (m : ℕ) (es digits rest : Text) → is_e m ≡ true
     → is_at_most_one is_sign es ≡ true → list_all is_digit digits ≡ true → is_empty digits ≡ false
     → with_exponent s w f (m ∷ ((es ++ digits) ++ rest))
-    ≡ record {
-      sign = s;
-      integer = w;
-      fraction = f;
-      mark = m ∷ [];
-      exponent_sign = es;
-      exponent = run_in is_digit (digits ++ rest);
-    }
+    ≡ with_digits s w f m es (digits ++ rest)
 exponent-long s w f m es digits rest e g a n =
     let cs : Text = (es ++ digits) ++ rest in
     let sign : one_in is_sign cs ≡ es = exponent-sign es digits rest g a n in
     let left : drop (length (one_in is_sign cs)) cs ≡ digits ++ rest = ap (λ xs. drop (length xs) cs) sign
     ∙ (ap (drop (length es)) (append_assoc es digits rest) ∙ drop-append_seam es (digits ++ rest)) in
-    let long : Numeral =
-    record {
-      sign = s;
-      integer = w;
-      fraction = f;
-      mark = m ∷ [];
-      exponent_sign = one_in is_sign cs;
-      exponent = run_in is_digit (drop (length (one_in is_sign cs)) cs);
-    } in
-    let short : Numeral =
-    record { sign = s; integer = w; fraction = f; mark = []; exponent_sign = []; exponent = [] } in
-    let made : Text → Text
-    → Numeral = λ xs ys.
-    record {
-      sign = s;
-      integer = w;
-      fraction = f;
-      mark = m ∷ [];
-      exponent_sign = xs;
-      exponent = run_in is_digit ys;
-    } in
-    pick-true (begins_exponent (m ∷ cs)) long short (exponent-begins m es digits rest e g a n)
-    ∙ (ap (λ xs. made xs (drop (length (one_in is_sign cs)) cs)) sign ∙ ap (made es) left)
+    pick-true (begins_exponent (m ∷ cs)) (with_mark s w f m cs) (without_exponent s w f)
+    (exponent-begins m es digits rest e g a n)
+    ∙ (ap (λ xs. with_digits s w f m xs (drop (length (one_in is_sign cs)) cs)) sign
+    ∙ ap (with_digits s w f m es) left)
 
 no-exponent : (s w f rest : Text) → begins_exponent rest ≡ false
-    → with_exponent s w f rest
-    ≡ record { sign = s; integer = w; fraction = f; mark = []; exponent_sign = []; exponent = [] }
+    → with_exponent s w f rest ≡ without_exponent s w f
 no-exponent s w f [] h = refl
 no-exponent s w f (c ∷ cs) h =
-    let long : Numeral =
-    record {
-      sign = s;
-      integer = w;
-      fraction = f;
-      mark = c ∷ [];
-      exponent_sign = one_in is_sign cs;
-      exponent = run_in is_digit (drop (length (one_in is_sign cs)) cs);
-    } in
-    let short : Numeral =
-    record { sign = s; integer = w; fraction = f; mark = []; exponent_sign = []; exponent = [] } in
-    pick-false (begins_exponent (c ∷ cs)) long short h
+    pick-false (begins_exponent (c ∷ cs)) (with_mark s w f c cs) (without_exponent s w f) h
 
 -- an exponent of the definition is the one that is computed, where no digit follows
 exponent-is : (s w f mark es digits rest : Text) → is_exponent mark es digits ≡ true

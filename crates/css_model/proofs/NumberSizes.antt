@@ -9,6 +9,7 @@ use Rattle.css_model.specs.inner.Fronts.{run_in, fraction_in, with_exponent, wit
 use Rattle.css_model.proofs.Tests.{and-left, and-right, not-true}
 use Rattle.css_model.proofs.Runs.{run_in-is, run_in-longest}
 use Rattle.css_model.proofs.FirstNumbers.{with_exponent-parts}
+use Rattle.css_model.proofs.NumeralLemmas.{with_digits}
 use Rattle.css_model.proofs.NumberBounds.{behind-sign-is, exponent-long, fraction-is, fraction-no_digit, e-no_digit, IsOther}
 
 pub numeral-length : (n : Numeral)
@@ -111,8 +112,7 @@ exponent-front s w f m es digits rest h =
     let a : list_all is_digit digits ≡ true =
     and-left (list_all is_digit digits) (not (is_empty digits)) l in
     let run : Text = run_in is_digit (digits ++ rest) in
-    let long : Numeral =
-    record { sign = s; integer = w; fraction = f; mark = m ∷ []; exponent_sign = es; exponent = run } in
+    let long : Numeral = with_digits s w f m es (digits ++ rest) in
     let is : with_exponent s w f (m ∷ ((es ++ digits) ++ rest)) ≡ long =
     exponent-long s w f m es digits rest
     (and-left (is_e m)

@@ -12,6 +12,7 @@ use Rattle.css_model.specs.inner.Fronts.{one_in, run_in, parts_in, after_parts, 
 use Rattle.css_model.proofs.Tests.{and-left, and-right, or-left, or-cases, pick-true, pick-false}
 use Rattle.css_model.proofs.PartLemmas.{Fronts, fronts}
 use Rattle.css_model.proofs.Demands.{begins_name}
+use Rattle.css_model.proofs.NumeralLemmas.{with_mark, without_exponent}
 use Rattle.css_model.proofs.FirstNumbers.{behind-exponent_sign, run-some}
 use Rattle.css_model.proofs.NumberBounds.{behind-sign-is, numeral-is, IsOther}
 use Rattle.css_model.proofs.NumberSizes.{numeral-length, with_exponent-length, some-length, parts-known}
@@ -137,17 +138,8 @@ exponent-grows s w f (c ∷ tl) rest t n =
     let cs : Text = tl ++ rest in
     let es : Text = one_in is_sign cs in
     let digits : Text = run_in is_digit (drop (length es) cs) in
-    let long : Numeral =
-    record {
-      sign = s;
-      integer = w;
-      fraction = f;
-      mark = c ∷ [];
-      exponent_sign = es;
-      exponent = digits;
-    } in
-    let short : Numeral =
-    record { sign = s; integer = w; fraction = f; mark = []; exponent_sign = []; exponent = [] } in
+    let long : Numeral = with_mark s w f c cs in
+    let short : Numeral = without_exponent s w f in
     let signed : begins_signed_digit (tl ++ rest) ≡ true =
     and-right (is_e c) (begins_signed_digit (tl ++ rest)) t in
     let unsigned' : begins_signed_digit tl ≡ false =

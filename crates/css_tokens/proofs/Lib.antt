@@ -1,4 +1,6 @@
 pub mod RunSteps
+pub mod Utf8Fronts
+pub mod HexFronts
 pub mod PreprocessedFronts
 pub mod LimitedDecimals
 pub mod Quotients
@@ -8,5 +10,7 @@ pub mod HexValues
 pub mod PartSteps
 pub mod CommentSteps
 pub mod UrlNames
-pub mod CalledNames
+pub mod PieceEnds
+pub mod PunctuationPieces
 pub mod FoundPieces
+pub mod LeftSteps

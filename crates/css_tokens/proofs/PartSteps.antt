@@ -1,15 +1,16 @@
 -- Parts in front of a text, one after another.
-use Rattle.std.proofs.Common.{◌≡◌, ◌∙◌, sym, ap, refl, subst, ℕ, zero, suc, pred, ◌+◌, ◌-◌, ◌≤◌, ◌||◌, ◌&&◌, not, List, [], ◌∷◌, ◌++◌, length, map, take, drop, drop-drop, length-drop, length-append, append_assoc, append-nil, Some, None, true, false, arith, inl, inr}
+use Rattle.std.proofs.Common.{◌≡◌, ◌∙◌, sym, ap, refl, subst, ℕ, zero, suc, pred, ◌<◌, ◌≤◌, ◌==◌, ◌||◌, ◌&&◌, not, Bool, List, [], ◌∷◌, ◌++◌, length, map, drop, drop-drop, length-drop, length-append, append_assoc, append-nil, Option, Some, None, true, false, eqb-true, arith, inl, inr}
 use Rattle.std.proofs.lemmas.Bool.{cases_Bool}
-use Rattle.std.specs.Prelude.{unwrap_or}
+use Rattle.std.proofs.lemmas.Bool.Decides.{nat_tests}
+use Rattle.std.specs.Prelude.{unwrap_or, option_map, is_some}
 use Rattle.css_model.specs.declared.place.Place.{Place}
-use Rattle.css_model.specs.declared.place.Place.TheVariants.{InName}
-use Rattle.css_model.specs.Classes.{Text, begins}
+use Rattle.css_model.specs.declared.place.Place.TheVariants.{InName, InString, InUrl, InBadUrl}
+use Rattle.css_model.specs.Classes.{Text, begins, is_empty, hyphen, backslash, is_digit, is_ident_start, is_ident_char}
 use Rattle.css_model.specs.Parts.{Part, itself, escaped, hex_escape, escaped_newline, escape_at_end, part_text, parts_text, is_allowed, may_stand, meaning, meanings, starts_name, is_hyphen, follows_hyphen, would_start_ident}
-use Rattle.css_model.specs.inner.Fronts.{escape_in, part_in, parts_in, run_in}
-use Rattle.css_model.proofs.PartLemmas.{parts_in-cons, parts_in-stop, parts_in-nil, fronts}
+use Rattle.css_model.specs.inner.Fronts.{escape_in, part_in, parts_in, run_in, after_parts}
+use Rattle.css_model.proofs.PartLemmas.{parts_in-cons, parts_in-stop, parts_in-nil}
 use Rattle.css_model.proofs.Tests.{pick-true, pick-false, and-left, and-right, not-true}
-use Rattle.css_tokens.specs.inner.Parts.{front_part, is_plain, is_backslash}
+use Rattle.css_tokens.specs.inner.Parts.{front_part, is_plain, is_backslash, HasAsciiQuote}
 
 -- ---- the part in front
 
@@ -19,6 +20,13 @@ part-some (escaped c) = omega arith
 part-some (hex_escape digits blank) = omega arith
 part-some escaped_newline = omega arith
 part-some escape_at_end = omega arith
+
+some-text : (p : Part) (cs : Text) → not (is_empty (part_text p ++ cs)) ≡ true
+some-text (itself c) cs = refl
+some-text (escaped c) cs = refl
+some-text (hex_escape digits blank) cs = refl
+some-text escaped_newline cs = refl
+some-text escape_at_end cs = refl
 
 drop-pred : (n c : ℕ) (cs : Text) → 1 ≤ n → drop (pred n) cs ≡ drop n (c ∷ cs)
 drop-pred zero c cs h = absurd (omega (arith, h))
@@ -51,68 +59,59 @@ front-none place (c ∷ cs) e = elim (cases_Bool (may_stand place (part_in c cs)
 
 -- ---- all parts in front
 
--- parts are no longer than the text
-pub parts-within : (place : Place) (cs : Text) → length (parts_text (parts_in place cs)) ≤ length cs
-parts-within place cs =
-    let parts : Text = parts_text (parts_in place cs) in
-    let rest : Text = drop (length parts) cs in
-    let whole : length parts + length rest ≡ length cs = sym (length-append parts rest) ∙ ap length (fronts place cs).joins in
-    omega (arith, whole)
+-- what comes after two texts
+pub drop-append : (xs ys cs : Text) → drop (length (xs ++ ys)) cs ≡ drop (length ys) (drop (length xs) cs)
+drop-append xs ys cs = ap (λ n. drop n cs) (length-append xs ys) ∙ (ap (λ n. drop n cs) (omega arith) ∙ sym (drop-drop (length ys) (length xs) cs))
 
--- one part more was read, which n code points spell
-pub record PartStep (place : Place) (cs : Text) (at n : ℕ) (p : Part) : Type 0 where
-  pub within : at + n ≤ length cs
-  pub some : 1 ≤ n
-  pub count : length (parts_text (parts_in place (drop at cs))) ≡ n + length (parts_text (parts_in place (drop (at + n) cs)))
-  pub means : meanings place (parts_in place (drop at cs)) ≡ meaning place p ++ meanings place (parts_in place (drop (at + n) cs))
+front-shorter : (place : Place) (cs : Text) (p : Part) → front_part place cs ≡ Some p → length (drop (length (part_text p)) cs) < length cs
+front-shorter place [] p e = cc
+front-shorter place (c ∷ cs) p e = omega (arith, length-drop (length (part_text p)) (c ∷ cs), part-some p)
 
-pub part-step : (place : Place) (cs : Text) (at n : ℕ) (p : Part) → at ≤ length cs → front_part place (drop at cs) ≡ Some p
-    → n ≡ length (part_text p) → PartStep place cs at n p
-part-step place cs at n p h e size =
-    let rest : Text = drop (at + n) cs in
-    let after : drop (length (part_text p)) (drop at cs) ≡ rest = ap (λ k. drop k (drop at cs)) (sym size) ∙ drop-drop n at cs in
-    let parts : parts_in place (drop at cs) ≡ p ∷ parts_in place rest =
-    front-some place (drop at cs) p e ∙ ap (λ xs. p ∷ parts_in place xs) after in
-    let count : length (parts_text (parts_in place (drop at cs))) ≡ n + length (parts_text (parts_in place rest)) =
-    ap (λ ps. length (parts_text ps)) parts ∙ (length-append (part_text p) (parts_text (parts_in place rest)) ∙ ap (λ k. k + length (parts_text (parts_in place rest))) (sym size)) in
-    let room : length (drop at cs) ≡ length cs - at = length-drop at cs in
+-- one part more was read, before this rest
+pub record PartStep (place : Place) (cs rest : Text) (p : Part) : Type 0 where
+  pub shorter : length rest < length cs
+  pub after : after_parts (parts_in place rest) rest ≡ after_parts (parts_in place cs) cs
+  pub means : meanings place (parts_in place cs) ≡ meaning place p ++ meanings place (parts_in place rest)
+
+pub part-step : (place : Place) (cs rest : Text) (p : Part) → front_part place cs ≡ Some p → rest ≡ drop (length (part_text p)) cs → PartStep place cs rest p
+part-step place cs rest p e there =
+    let parts : parts_in place cs ≡ p ∷ parts_in place rest = front-some place cs p e ∙ ap (λ xs. p ∷ parts_in place xs) (sym there) in
     record {
-      within = omega (arith, count, parts-within place (drop at cs), room, h);
-      some = omega (arith, part-some p, size);
-      count = count;
+      shorter = omega (arith, ap length there, front-shorter place cs p e);
+      after = ap (drop (length (parts_text (parts_in place rest)))) there
+          ∙ (sym (drop-append (part_text p) (parts_text (parts_in place rest)) cs) ∙ ap (λ ps. after_parts ps cs) (sym parts));
       means = ap (meanings place) parts;
     }
 
-pub part-end : (place : Place) (cs : Text) (at : ℕ) → front_part place (drop at cs) ≡ None → length (parts_text (parts_in place (drop at cs))) ≡ 0
-part-end place cs at e = ap (λ ps. length (parts_text ps)) (front-none place (drop at cs) e)
+pub part-end : (place : Place) (cs : Text) → front_part place cs ≡ None → after_parts (parts_in place cs) cs ≡ cs
+part-end place cs e = ap (λ ps. after_parts ps cs) (front-none place cs e)
 
-pub meaning-end : (place : Place) (cs : Text) (at : ℕ) → front_part place (drop at cs) ≡ None → meanings place (parts_in place (drop at cs)) ≡ []
-meaning-end place cs at e = ap (meanings place) (front-none place (drop at cs) e)
+pub meaning-end : (place : Place) (cs : Text) → front_part place cs ≡ None → meanings place (parts_in place cs) ≡ []
+meaning-end place cs e = ap (meanings place) (front-none place cs e)
+
+begins-some : (place : Place) (cs : Text) (p : Part) → front_part place cs ≡ Some p → not (is_empty (parts_text (parts_in place cs))) ≡ true
+begins-some place cs p e = ap (λ ps. not (is_empty (parts_text ps))) (front-some place cs p e) ∙ some-text p (parts_text (parts_in place (drop (length (part_text p)) cs)))
+
+begins-none : (place : Place) (cs : Text) → front_part place cs ≡ None → not (is_empty (parts_text (parts_in place cs))) ≡ false
+begins-none place cs e = ap (λ ps. not (is_empty (parts_text ps))) (front-none place cs e)
+
+pub begins-is : {X : Type 0} (view : X → Part) (place : Place) (cs : Text) (o : Option X) → option_map view o ≡ front_part place cs
+    → is_some o ≡ not (is_empty (parts_text (parts_in place cs)))
+begins-is view place cs None e = sym (begins-none place cs (sym e))
+begins-is view place cs (Some x) e = sym (begins-some place cs (view x) (sym e))
 
 -- ---- identifiers
-
--- a first part that is a `-` is one code point
-pub hyphen-front : (cs : Text) (p : Part) → front_part InName cs ≡ Some p → is_hyphen p ≡ true
-    → (1 ≤ length cs) × (parts_in InName cs ≡ p ∷ parts_in InName (drop 1 cs))
-hyphen-front cs (itself c) e h =
-    let step : PartStep InName cs 0 1 (itself c) = part-step InName cs 0 1 (itself c) (omega arith) e refl in
-    (omega (arith, step.within), front-some InName cs (itself c) e)
-hyphen-front cs (escaped c) e h = cc
-hyphen-front cs (hex_escape digits blank) e h = cc
-hyphen-front cs escaped_newline e h = cc
-hyphen-front cs escape_at_end e h = cc
 
 pub ident-first : (cs : Text) (p : Part) → front_part InName cs ≡ Some p → starts_name p ≡ true → would_start_ident (parts_in InName cs) ≡ true
 ident-first cs p e t =
     let rest : List Part = parts_in InName (drop (length (part_text p)) cs) in
     ap would_start_ident (front-some InName cs p e) ∙ ap (λ b. b || (is_hyphen p && follows_hyphen rest)) t
 
-pub ident-hyphen : (cs : Text) (p : Part) → front_part InName cs ≡ Some p → starts_name p ≡ false → is_hyphen p ≡ true
-    → would_start_ident (parts_in InName cs) ≡ follows_hyphen (parts_in InName (drop 1 cs))
-ident-hyphen cs p e s h =
-    let rest : List Part = parts_in InName (drop 1 cs) in
-    ap would_start_ident (hyphen-front cs p e h).1
-    ∙ (ap (λ b. b || (is_hyphen p && follows_hyphen rest)) s ∙ ap (λ b. b && follows_hyphen rest) h)
+pub ident-hyphen : (cs rest : Text) (p : Part) → front_part InName cs ≡ Some p → rest ≡ drop (length (part_text p)) cs → starts_name p ≡ false → is_hyphen p ≡ true
+    → would_start_ident (parts_in InName cs) ≡ follows_hyphen (parts_in InName rest)
+ident-hyphen cs rest p e there s h =
+    ap would_start_ident (front-some InName cs p e ∙ ap (λ xs. p ∷ parts_in InName xs) (sym there))
+    ∙ (ap (λ b. b || (is_hyphen p && follows_hyphen (parts_in InName rest))) s ∙ ap (λ b. b && follows_hyphen (parts_in InName rest)) h)
 
 pub ident-other : (cs : Text) (p : Part) → front_part InName cs ≡ Some p → starts_name p ≡ false → is_hyphen p ≡ false → would_start_ident (parts_in InName cs) ≡ false
 ident-other cs p e s h =
@@ -128,6 +127,36 @@ follows-some cs p e = ap follows_hyphen (front-some InName cs p e)
 
 pub follows-none : (cs : Text) → front_part InName cs ≡ None → follows_hyphen (parts_in InName cs) ≡ false
 follows-none cs e = ap follows_hyphen (front-none InName cs e)
+
+pub unequal : (a b : ℕ) → (a ≡ b → ⊥) → (a == b) ≡ false
+unequal a b n = elim (cases_Bool (a == b)) [
+  | inl t ↦ absurd (n (eqb-true a b t))
+  | inr f ↦ f
+]
+
+or-false : (b : Bool) → (b || false) ≡ b
+or-false true = refl
+or-false false = refl
+
+or-left : (a b : Bool) → (a || b) ≡ false → a ≡ false
+or-left true b e = e
+or-left false b e = refl
+
+-- what is no `-` and no backslash starts an identifier by itself or not at all
+pub start-other : (c : ℕ) (cs : Text) → (c == hyphen) ≡ false → (c == backslash) ≡ false → is_ident_start c ≡ would_start_ident (parts_in InName (c ∷ cs))
+start-other c cs h b =
+    let here : part_in c cs ≡ itself c = pick-false (c == backslash) (escape_in cs) (itself c) b in
+    elim (cases_Bool (is_ident_char c)) [
+      | inl t ↦
+          let parts : parts_in InName (c ∷ cs) ≡ part_in c cs ∷ parts_in InName (drop (pred (length (part_text (part_in c cs)))) cs) =
+          parts_in-cons InName c cs (ap (may_stand InName) here ∙ t) in
+          let rest : List Part = parts_in InName (drop (pred (length (part_text (part_in c cs)))) cs) in
+          sym (ap would_start_ident parts ∙ (ap (λ p. starts_name p || (is_hyphen p && follows_hyphen rest)) here
+          ∙ (ap (λ x. is_ident_start c || (x && follows_hyphen rest)) h ∙ or-false (is_ident_start c))))
+      | inr f ↦
+          let none : parts_in InName (c ∷ cs) ≡ [] = parts_in-stop InName c cs (ap (may_stand InName) here ∙ f) in
+          or-left (is_ident_start c) (is_digit c || (c == hyphen)) f ∙ sym (ap would_start_ident none)
+    ]
 
 -- ---- code points that are parts by themselves
 
@@ -162,20 +191,24 @@ plain-parts place (c ∷ cs) e = elim (cases_Bool (is_plain place c)) [
       parts_in-stop place c cs (ap (may_stand place) here ∙ none) ∙ sym (ap (map itself) run)
 ]
 
--- what is known of them by their number
-pub record Plain (place : Place) (cs : Text) (count : ℕ) : Type 0 where
-  pub counted : count ≡ length (parts_text (parts_in place cs))
-  pub means : take count cs ≡ meanings place (parts_in place cs)
-
-pub plain-counted : (place : Place) (cs : Text) (count : ℕ) → count ≡ length (run_in (is_plain place) cs) → take (length (run_in (is_plain place) cs)) cs ≡ run_in (is_plain place) cs
-    → begins is_backslash (drop count cs) ≡ false → Plain place cs count
-plain-counted place cs count is front e =
+-- then what is after them is what is after the plain code points, and these are what they mean
+pub plain-after : (place : Place) (cs : Text) → begins is_backslash (drop (length (run_in (is_plain place) cs)) cs) ≡ false
+    → drop (length (run_in (is_plain place) cs)) cs ≡ after_parts (parts_in place cs) cs
+plain-after place cs e =
     let plain : Text = run_in (is_plain place) cs in
-    let parts : parts_in place cs ≡ map itself plain = plain-parts place cs (sym (ap (λ n. begins is_backslash (drop n cs)) is) ∙ e) in
-    record {
-      counted = is ∙ ap length (sym (ap parts_text parts ∙ plain_text plain));
-      means = ap (λ n. take n cs) is ∙ (front ∙ sym (ap (meanings place) parts ∙ plain_means place plain));
-    }
+    ap (λ xs. drop (length xs) cs) (sym (ap parts_text (plain-parts place cs e) ∙ plain_text plain))
+
+pub plain-means : (place : Place) (cs : Text) → begins is_backslash (drop (length (run_in (is_plain place) cs)) cs) ≡ false
+    → run_in (is_plain place) cs ≡ meanings place (parts_in place cs)
+plain-means place cs e =
+    sym (ap (meanings place) (plain-parts place cs e) ∙ plain_means place (run_in (is_plain place) cs))
+
+-- all past ASCII is plain
+pub plain-high : (place : Place) → HasAsciiQuote place → (c : ℕ) → 128 ≤ c → is_plain place c ≡ true
+plain-high InName q c h = grind (arith, nat_tests)
+plain-high (InString quote) q c h = grind (arith, nat_tests)
+plain-high InUrl q c h = grind (arith, nat_tests)
+plain-high InBadUrl q c h = grind (arith, nat_tests)
 
 -- ---- what was read, and what is still to be read
 

@@ -1,9 +1,16 @@
 -- A text is preprocessed character by character.
-use Rattle.std.proofs.Common.{◌≡◌, ◌∙◌, sym, ap, refl, ℕ, ◌==◌, ◌&&◌, [], ◌∷◌, ◌++◌, true, false, eqb-true, inl, inr}
-use Rattle.std.proofs.lemmas.Bool.{cases_Bool, false≢true}
+use Rattle.std.proofs.Common.{◌≡◌, ◌∙◌, sym, ap, refl, ℕ, ◌==◌, ◌&&◌, ◌≤◌, not, Bool, List, [], ◌∷◌, ◌++◌, true, false, eqb-true, arith, inl, inr}
+use Rattle.std.proofs.lemmas.Bool.{cases_Bool, cases_lt, false≢true}
+use Rattle.std.proofs.lemmas.Bool.Decides.{nat_tests}
+use Rattle.std.proofs.lemmas.Str.{encodes-chars}
+use Rattle.std.proofs.Math.Utf8.{encodes, encode}
+use Rattle.std.specs.List.{list_all}
+use Rattle.std.specs.Str.{chars, IsUtf8}
+use Rattle.css_model.proofs.Tests.{and-left, and-right}
+use Rattle.css_tokens.proofs.Utf8Fronts.{low-bytes}
 use Rattle.css_model.specs.Classes.{Text, is_newline, newline}
-use Rattle.css_model.specs.Preprocessing.{carriage_return, replaced, preprocessed}
-use Rattle.css_tokens.specs.inner.Replacing.{kept_after, last_after}
+use Rattle.css_model.specs.Preprocessing.{carriage_return, form_feed, replaced, preprocessed}
+use Rattle.css_tokens.specs.inner.Replacing.{is_kept, kept_after, last_after}
 
 preprocessed-one : (c : ℕ) → preprocessed (c ∷ []) ≡ replaced c ∷ []
 preprocessed-one c = elim (cases_Bool (c == carriage_return)) [
@@ -42,3 +49,38 @@ preprocessed-push (b ∷ bs) c = preprocessed-more b bs c
 pub last-push : (b : ℕ) (cs : Text) (c : ℕ) → last_after b (cs ++ c ∷ []) ≡ c
 last-push b [] c = refl
 last-push b (d ∷ ds) c = last-push d ds c
+
+-- ---- texts that are preprocessed as they are
+
+all-front : (test : ℕ → Bool) (xs ys : Text) → list_all test (xs ++ ys) ≡ true → list_all test ys ≡ true
+all-front test [] ys e = e
+all-front test (x ∷ xs) ys e = all-front test xs ys (and-right (test x) (list_all test (xs ++ ys)) e)
+
+high-kept : (c : ℕ) → 128 ≤ c → is_kept c ≡ true
+high-kept c h = grind (arith, nat_tests)
+
+kept-first : (c : ℕ) (cs : Text) → list_all is_kept (encodes (c ∷ cs)) ≡ true → is_kept c ≡ true
+kept-first c cs e = elim (cases_lt c 128) [
+  | inl h ↦ and-left (is_kept c) (list_all is_kept (encodes cs)) (ap (list_all is_kept) (sym (low-bytes c cs h)) ∙ e)
+  | inr h ↦ high-kept c h
+]
+
+no : (b : Bool) → not b ≡ true → b ≡ false
+no true e = absurd (false≢true e)
+no false e = refl
+
+kept-more : (c : ℕ) (cs : Text) → is_kept c ≡ true → preprocessed (c ∷ cs) ≡ c ∷ preprocessed cs
+kept-more c cs k =
+    let a : (c == carriage_return) ≡ false = no (c == carriage_return) (and-left (not (c == carriage_return)) (not (c == form_feed) && not (c == 0)) k) in
+    let more : (not (c == form_feed) && not (c == 0)) ≡ true = and-right (not (c == carriage_return)) (not (c == form_feed) && not (c == 0)) k in
+    let b : (c == form_feed) ≡ false = no (c == form_feed) (and-left (not (c == form_feed)) (not (c == 0)) more) in
+    let d : (c == 0) ≡ false = no (c == 0) (and-right (not (c == form_feed)) (not (c == 0)) more) in
+    rw (a, b, d) refl
+
+kept-all : (cs : Text) → list_all is_kept (encodes cs) ≡ true → preprocessed cs ≡ cs
+kept-all [] e = refl
+kept-all (c ∷ cs) e =
+    kept-more c cs (kept-first c cs e) ∙ ap (λ l. c ∷ l) (kept-all cs (all-front is_kept (encode c) (encodes cs) e))
+
+pub kept-text : (bs : List ℕ) → IsUtf8 bs → list_all is_kept bs ≡ true → preprocessed (chars bs) ≡ chars bs
+kept-text bs u e = kept-all (chars bs) (ap (list_all is_kept) (encodes-chars bs u) ∙ e)

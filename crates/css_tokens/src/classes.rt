@@ -16,6 +16,8 @@ pub enum Class {
     Sign,
     /// `-`.
     Hyphen,
+    /// `e` or `E`, before an exponent.
+    Mark,
     /// `"` or `'`.
     Quote,
     /// `(`.
@@ -35,6 +37,7 @@ impl Class {
             Class::Whitespace => is_whitespace(c),
             Class::Sign => is_sign(c),
             Class::Hyphen => c == '-',
+            Class::Mark => is_e(c),
             Class::Quote => is_quote(c),
             Class::OpenRound => c == '(',
             Class::CloseRound => c == ')',

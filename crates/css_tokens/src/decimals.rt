@@ -3,23 +3,23 @@ ghost use Rattle.std.specs.Prelude.{◌≡◌, ◌≤◌, ◌<◌, ◌^◌, ◌*
 ghost use Rattle.css_model.specs.Numerals.{decimal_after};
 
 /// The number that `digits` write after others that write `value`, at most `limit`.
-pub fn decimal_within(limit: u128, value: u128, digits: &[char]) -> u128
+pub fn decimal_within(limit: u128, value: u128, digits: &[u8]) -> u128
     requires room { limit ≤ 2 ^ 66 }
     requires below { value ≤ limit }
     ensures { result ≡ min limit (decimal_after value digits.now) }
 {
     let mut value = value;
-    for c in digits {
-        value = (value * 10 + digit_value(*c)).min(limit);
+    for b in digits {
+        value = (value * 10 + digit_value(*b)).min(limit);
     }
     value
 }
 
-fn digit_value(c: char) -> u128
-    ensures value { result ≡ c - 48 }
+fn digit_value(b: u8) -> u128
+    ensures value { result ≡ b - 48 }
     ensures small { result < 2 ^ 32 }
 {
-    (c as u32).saturating_sub(48) as u128
+    b.saturating_sub(48) as u128
 }
 
 /// `value` followed by this many zeros, at most `limit`, which has up to 16 digits.

@@ -1,5 +1,7 @@
 //! Code points and escapes in names, strings and urls (CSS Syntax 3, sections 4.3.7 and 4.3.8).
-ghost use Rattle.std.specs.Prelude.{◌≡◌, ◌≤◌, ◌<◌, ◌^◌, length, min, option_to_list};
+ghost use Rattle.std.specs.Prelude.{◌≡◌, ◌≤◌, ◌<◌, ◌^◌, ◌∷◌, length, drop, min, option_to_list};
+ghost use Rattle.std.specs.Str.{chars};
+ghost use Rattle.css_model.specs.Classes.{backslash};
 ghost use Rattle.css_model.specs.Parts as model;
 ghost use Rattle.css_model.specs.inner.Fronts.{hex_digits_in, hex_escape_in, escape_in, part_in};
 ghost use Rattle.css_tokens.specs.inner.Parts.{part_view};
@@ -7,7 +9,7 @@ ghost use Rattle.css_tokens.specs.inner.Parts.{part_view};
 use crate::classes::{
     Class, is_ident_char, is_ident_start, is_non_printable, is_quote, is_whitespace,
 };
-use crate::runs::{after, one, run};
+use crate::runs::{first, one, run_length, split_ascii};
 use css_model::Place;
 
 /// U+FFFD, which replaces what is not a code point.
@@ -26,9 +28,9 @@ pub enum Part<'a> {
     /// A backslash, hex digits that write a code point, and perhaps one whitespace code point.
     HexEscape {
         /// The hex digits.
-        digits: &'a [char],
+        digits: &'a [u8],
         /// The whitespace after them.
-        blank: &'a [char],
+        blank: &'a [u8],
     },
     /// A backslash and a newline.
     EscapedNewline,
@@ -37,18 +39,6 @@ pub enum Part<'a> {
 }
 
 impl<'a> Part<'a> {
-    /// How many code points spell the part.
-    pub fn len(&self) -> usize
-        requires { length (model.part_text (part_view self.now)) < 2 ^ 64 }
-        ensures { result ≡ length (model.part_text (part_view self.now)) }
-    {
-        match self {
-            Part::Itself(_) | Part::EscapeAtEnd => 1,
-            Part::Escaped(_) | Part::EscapedNewline => 2,
-            Part::HexEscape { digits, blank } => 1 + digits.len() + blank.len(),
-        }
-    }
-
     /// Whether the part may stand at `place`.
     pub fn may_stand(&self, place: Place) -> bool
         ensures { result ≡ model.may_stand place (part_view self.now) }
@@ -128,74 +118,86 @@ fn meaning_at_end(place: Place) -> Option<char>
     }
 }
 
-/// The part that `c` and then `rest` begin with.
-pub fn part_at<'a>(c: char, rest: &'a [char]) -> Part<'a>
-    ensures { part_view result ≡ part_in c rest.now }
+/// The part that `c` and then `rest` begin with, and the text after it.
+pub fn part_at<'a>(c: char, rest: &'a str) -> (Part<'a>, &'a str)
+    ensures part { part_view result.0 ≡ part_in c (chars rest.now) }
+    ensures rest { chars result.1.now
+        ≡ drop (length (model.part_text (part_in c (chars rest.now)))) (c ∷ chars rest.now) }
 {
     if c == '\\' {
         escape_at(rest)
     } else {
-        Part::Itself(c)
+        (Part::Itself(c), rest)
     }
 }
 
-/// The escape after whose backslash `rest` begins.
-fn escape_at<'a>(rest: &'a [char]) -> Part<'a>
-    ensures { part_view result ≡ escape_in rest.now }
+/// The escape after whose backslash `rest` begins, and the text after it.
+fn escape_at<'a>(rest: &'a str) -> (Part<'a>, &'a str)
+    ensures part { part_view result.0 ≡ escape_in (chars rest.now) }
+    ensures rest { chars result.1.now
+        ≡ drop (length (model.part_text (escape_in (chars rest.now)))) (backslash ∷ chars rest.now) }
 {
-    match rest {
-        [] => Part::EscapeAtEnd,
-        [c, ..] => {
-            if *c == '\n' {
-                Part::EscapedNewline
+    match first(rest) {
+        None => (Part::EscapeAtEnd, rest),
+        Some((c, after)) => {
+            if c == '\n' {
+                (Part::EscapedNewline, after)
             } else if c.is_ascii_hexdigit() {
                 hex_escape_at(rest)
             } else {
-                Part::Escaped(*c)
+                (Part::Escaped(c), after)
             }
         }
     }
 }
 
-/// The hex escape after whose backslash `rest` begins.
-fn hex_escape_at<'a>(rest: &'a [char]) -> Part<'a>
-    ensures { part_view result ≡ hex_escape_in rest.now }
+/// The hex escape after whose backslash `rest` begins, and the text after it.
+fn hex_escape_at<'a>(rest: &'a str) -> (Part<'a>, &'a str)
+    ensures part { part_view result.0 ≡ hex_escape_in (chars rest.now) }
+    ensures rest { chars result.1.now
+        ≡ drop (length (model.part_text (hex_escape_in (chars rest.now)))) (backslash ∷ chars rest.now) }
 {
-    let digits = hex_digits(rest);
-    let (blank, _) = one(Class::Whitespace, after(rest, digits.len()));
-    Part::HexEscape { digits, blank }
+    let (digits, after) = hex_digits(rest);
+    let (blank, after) = one(Class::Whitespace, after);
+    (Part::HexEscape { digits, blank }, after)
 }
 
-/// The hex digits in front, but no more than six.
-fn hex_digits<'a>(cs: &'a [char]) -> &'a [char]
-    ensures digits { result.now ≡ hex_digits_in 6 cs.now }
-    ensures within { length result.now ≤ length cs.now }
-    ensures few { length result.now ≤ 6 }
+/// The hex digits in front of `cs`, but no more than six, and the rest.
+fn hex_digits<'a>(cs: &'a str) -> (&'a [u8], &'a str)
+    ensures digits { result.0.now ≡ hex_digits_in 6 (chars cs.now) }
+    ensures rest { chars result.1.now ≡ drop (length (hex_digits_in 6 (chars cs.now))) (chars cs.now) }
 {
-    let (front, _) = cs.split_at(cs.len().min(6));
-    let (digits, _) = run(Class::HexDigit, front);
-    digits
+    split_ascii(cs, hex_length(cs.as_bytes()))
+}
+
+/// How many hex digits are in front of `bytes`, or six if there are more.
+fn hex_length(bytes: &[u8]) -> usize
+    ensures digits { result ≡ length (hex_digits_in 6 bytes.now) }
+    ensures within { result ≤ length bytes.now }
+{
+    let (front, _) = bytes.split_at(bytes.len().min(6));
+    run_length(Class::HexDigit, front)
 }
 
 /// The number that hex digits write, clamped to the first number past U+10FFFF.
-fn hex_value(digits: &[char]) -> u32
+fn hex_value(digits: &[u8]) -> u32
     ensures { result ≡ min 0x110000 (model.hex_value_after 0 digits.now) }
 {
     let mut value = 0;
-    for c in digits {
-        value = (value * 16 + hex_digit_value(*c)).min(TOO_LARGE);
+    for b in digits {
+        value = (value * 16 + hex_digit_value(*b)).min(TOO_LARGE);
     }
     value
 }
 
-fn hex_digit_value(c: char) -> u32
-    ensures value { result ≡ model.hex_digit_value c }
+fn hex_digit_value(b: u8) -> u32
+    ensures value { result ≡ model.hex_digit_value b }
     ensures small { result < 2 ^ 21 }
 {
-    let code = c as u32;
-    if c.is_ascii_digit() {
+    let code = b as u32;
+    if b.is_ascii_digit() {
         code - 48
-    } else if c <= 'F' {
+    } else if b <= b'F' {
         code.saturating_sub(55)
     } else {
         code.saturating_sub(87)

@@ -11,8 +11,6 @@ mod first_piece;
 mod magnitudes;
 mod names;
 mod nesting;
-#[cfg(test)]
-mod nesting_tests;
 mod numbers;
 mod numerals;
 mod parts;
@@ -20,8 +18,6 @@ mod piece;
 mod preprocessing;
 mod runs;
 mod strings;
-#[cfg(test)]
-mod tests;
 mod tokenizer;
 mod urls;
 

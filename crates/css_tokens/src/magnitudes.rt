@@ -20,7 +20,7 @@ const MAX_PLACES: u128 = 1 << 65;
 const MILLIONTHS: u128 = 6;
 
 /// The number before the point after it has moved to the right by `places`, clamped.
-fn moved_right(integer: &[char], fraction: &[char], places: u128) -> u128
+fn moved_right(integer: &[u8], fraction: &[u8], places: u128) -> u128
     ensures { result ≡ min (10 ^ 15)
         (decimal_after 0 (integer.now ++ take places fraction.now) * 10 ^ (places - length fraction.now)) }
 {
@@ -31,7 +31,7 @@ fn moved_right(integer: &[char], fraction: &[char], places: u128) -> u128
 }
 
 /// The number before the point after it has moved to the left by `places`, clamped.
-fn moved_left(integer: &[char], places: u128) -> u128
+fn moved_left(integer: &[u8], places: u128) -> u128
     ensures { result ≡ min (10 ^ 15) (decimal_after 0 (take (length integer.now - places) integer.now)) }
 {
     let cut = places.min(integer.len() as u128) as usize;
@@ -39,14 +39,14 @@ fn moved_left(integer: &[char], places: u128) -> u128
 }
 
 /// The places of an exponent, at most `MAX_PLACES`.
-fn places_of(exponent: &[char]) -> u128
+fn places_of(exponent: &[u8]) -> u128
     ensures { result ≡ min (2 ^ 65) (decimal_after 0 exponent.now) }
 {
     decimal_within(MAX_PLACES, 0, exponent)
 }
 
 /// The size of a number whose exponent is not negative.
-pub fn enlarged(integer: &[char], fraction: &[char], exponent: &[char]) -> u128
+pub fn enlarged(integer: &[u8], fraction: &[u8], exponent: &[u8]) -> u128
     requires fraction { list_all is_digit fraction.now ≡ true }
     ensures { result ≡ min (10 ^ 15)
         ((decimal_after 0 (integer.now ++ fraction.now) * 10 ^ (6 + decimal_after 0 exponent.now))
@@ -56,7 +56,7 @@ pub fn enlarged(integer: &[char], fraction: &[char], exponent: &[char]) -> u128
 }
 
 /// The size of a number whose exponent is negative.
-pub fn reduced(integer: &[char], fraction: &[char], exponent: &[char]) -> u128
+pub fn reduced(integer: &[u8], fraction: &[u8], exponent: &[u8]) -> u128
     requires integer { list_all is_digit integer.now ≡ true }
     requires fraction { list_all is_digit fraction.now ≡ true }
     ensures { result ≡ min (10 ^ 15)

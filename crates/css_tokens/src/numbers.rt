@@ -1,54 +1,46 @@
 //! Numbers, percentages and dimensions (CSS Syntax 3, section 4.3.3).
-ghost use Rattle.std.specs.Prelude.{◌≡◌, ◌≤◌, length, drop, codes, true, IfOk};
+ghost use Rattle.std.specs.Prelude.{◌≡◌, length, drop, true, IfOk};
+ghost use Rattle.std.specs.Str.{chars};
 ghost use Rattle.css_model.specs.Numerals as written;
 ghost use Rattle.css_model.specs.inner.Fronts.{would_start_number, numeral_in};
 ghost use Rattle.css_model.specs.inner.Pieces as model;
-ghost use Rattle.css_model.specs.Classes.{has_front};
 ghost use Rattle.css_tokens.specs.inner.Found.{IsFound};
 
 use crate::numerals::read_numeral;
-use crate::parts::{consume_parts, would_start_ident};
+use crate::parts::{after_parts, meaning_of_parts, would_start_ident};
 use crate::piece::Piece;
-use crate::runs::after;
+use crate::runs::after_front;
 use css_model::{Number, Place, TokenType};
 use port_core::NoMemory;
 use std::alloc::Global;
 
 /// Consumes the number, percentage or dimension in front of `cs`.
-pub fn consume_numeric(alloc: Global, cs: &[char]) -> Result<Piece, NoMemory>
-    requires { would_start_number cs.now ≡ true }
-    ensures { IfOk result (λ p. IsFound p (model.consume_numeric (numeral_in cs.now)
-        (drop (length (written.numeral_text (numeral_in cs.now))) cs.now))) }
+pub fn consume_numeric<'a>(alloc: Global, cs: &'a str) -> Result<Piece<'a>, NoMemory>
+    requires { would_start_number (chars cs.now) ≡ true }
+    ensures { IfOk result (λ p. IsFound p (model.consume_numeric (numeral_in (chars cs.now))
+        (drop (length (written.numeral_text (numeral_in (chars cs.now)))) (chars cs.now))) (chars cs.now)) }
 {
-    let (number, count) = read_number(cs);
-    let rest = after(cs, count);
+    let (number, rest) = read_number(cs);
     if would_start_ident(rest) {
-        let unit = consume_parts(alloc, Place::InName, rest)?;
+        let unit = meaning_of_parts(alloc, Place::InName, rest)?;
         return Ok(Piece::token(
-            TokenType::Dimension(number, unit.meaning),
-            count + unit.count,
+            TokenType::Dimension(number, unit),
+            after_parts(Place::InName, rest),
         ));
     }
-    if begins_percent(rest) {
-        Ok(Piece::token(TokenType::Percentage(number), count + 1))
-    } else {
-        Ok(Piece::token(TokenType::Number(number), count))
+    match after_front(b"%", rest) {
+        Some(rest) => Ok(Piece::token(TokenType::Percentage(number), rest)),
+        None => Ok(Piece::token(TokenType::Number(number), rest)),
     }
 }
 
-fn begins_percent(cs: &[char]) -> bool
-    ensures { result ≡ has_front (codes "%") cs.now }
+/// The number in front of `cs`, and the text after it.
+fn read_number<'a>(cs: &'a str) -> (Number, &'a str)
+    requires { would_start_number (chars cs.now) ≡ true }
+    ensures number { result.0 ≡ written.number_of (numeral_in (chars cs.now)) }
+    ensures rest { chars result.1.now
+        ≡ drop (length (written.numeral_text (numeral_in (chars cs.now)))) (chars cs.now) }
 {
-    matches!(cs, ['%', ..])
-}
-
-/// The number in front of `cs`, and its length.
-fn read_number(cs: &[char]) -> (Number, usize)
-    requires { would_start_number cs.now ≡ true }
-    ensures number { result.0 ≡ written.number_of (numeral_in cs.now) }
-    ensures count { result.1 ≡ length (written.numeral_text (numeral_in cs.now)) }
-    ensures within { result.1 ≤ length cs.now }
-{
-    let numeral = read_numeral(cs);
-    (numeral.number(), numeral.len())
+    let (numeral, rest) = read_numeral(cs);
+    (numeral.number(), rest)
 }

@@ -5,33 +5,33 @@ use css_model::TokenType;
 
 /// What is in front of a text: a token, or a comment.
 #[derive(Debug, Drop)]
-pub struct Piece {
+pub struct Piece<'a> {
     /// The type of the token; a comment has none.
     pub token_type: Option<TokenType>,
-    /// How many code points it has.
-    pub count: usize,
+    /// The text after it.
+    pub rest: &'a str,
 }
 
-impl Piece {
-    /// A token of this type.
-    pub fn token(token_type: TokenType, count: usize) -> Piece
+impl<'a> Piece<'a> {
+    /// A token of this type, before `rest`.
+    pub fn token(token_type: TokenType, rest: &'a str) -> Piece<'a>
         ensures token_type { result.token_type ≡ Some token_type }
-        ensures count { result.count ≡ count }
+        ensures rest { result.rest.now ≡ rest.now }
     {
         Piece {
             token_type: Some(token_type),
-            count,
+            rest,
         }
     }
 
-    /// A comment.
-    pub fn comment(count: usize) -> Piece
+    /// A comment, before `rest`.
+    pub fn comment(rest: &'a str) -> Piece<'a>
         ensures token_type { result.token_type ≡ None }
-        ensures count { result.count ≡ count }
+        ensures rest { result.rest.now ≡ rest.now }
     {
         Piece {
             token_type: None,
-            count,
+            rest,
         }
     }
 }

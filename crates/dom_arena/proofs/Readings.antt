@@ -1,120 +1,73 @@
--- What each reader finds in the table of a tree.
-use Rattle.std.proofs.Common.{length, ◌≡◌, ℕ, suc, ◌+◌, ◌==◌, ◌||◌, List, [], true, false, Option, Some, None, option_map, option_and_then, unwrap_or, is_some, IfSome, refl, sym, ap, ◌∙◌, inl, inr, arith}
-use Rattle.std.specs.List.{slice_get}
-use Rattle.std.proofs.lemmas.Bool.{false≢true, eqb-true, cases_Bool}
-use Rattle.std.proofs.lemmas.Option.{same_Some, none-some}
-use Rattle.page_model.specs.Document.{Node, element, text, id_of, children_of, ids_of, name_of, find, parent_in, first, after, before, first_child_of, next_of, prev_of, parent_of, name_at}
-use Rattle.page_model.specs.Edits.{child_count}
-use Rattle.dom_arena.specs.declared.slot.Slot.{Slot}
-use Rattle.dom_arena.specs.Table.{slot_at, content_of, IsTable, kids_in, kids_of_slot, kids_at, name_of_content, name_in, parent_in_slot, next_in, prev_in, preceding}
-use Rattle.dom_arena.proofs.Held.{Holds-find, Holds-top, Holds-parent, IsChild, find-parent}
+-- What the readers find in cells, and the tree that cells are.
+use Rattle.std.proofs.Common.{List, None, Option, Some, [], ap, arith, eqb-true, inl, inr, length, map, option_and_then, refl, subst, suc, sym, zero, ℕ, ◌==◌, ◌∙◌, ◌∷◌, ◌≡◌, ◌≤◌}
+use Rattle.std.proofs.lemmas.Bool.{cases_Bool, eqb-false}
+use Rattle.dom_arena.proofs.Found.{find-children}
+use Rattle.dom_arena.specs.Cells.{AreChained, AreLinked, Cells, Place, front}
+use Rattle.dom_arena.specs.Found.{AreFound}
+use Rattle.dom_arena.specs.Reading.{below, node_of, siblings}
+use Rattle.page_laws.proofs.Find.{find-id}
+use Rattle.page_laws.proofs.ParentOf.{child-node, child_ids-found, next-listed, parent-lists, prev-listed}
+use Rattle.page_model.specs.Document.{AreDistinct, IsAmong, Node, Nodes, after, before, child_ids, children_of, element, find, first, height, heights, id_of, ids, ids_of, next_of, no_nodes, node, nodes_of, parent_of, prev_of, text}
 
--- ---- the content of a slot is that of the node with its number
+-- ---- places
 
-content-cases : (o : Option Node) (s : Option Slot) → IfSome o (λ n. option_map (λ (s : Slot). s.content) s ≡ Some (content_of n)) → (is_some s ≡ true → is_some o ≡ true)
-    → option_map (λ (s : Slot). s.content) s ≡ option_map content_of o
-content-cases (Some n) s h l = h
-content-cases None None h l = refl
-content-cases None (Some s) h l = absurd (false≢true (l refl))
+pub front-first : (xs : List ℕ) → front xs None ≡ first xs
+front-first [] = refl
+front-first (x ∷ xs) = refl
 
-table-content : (slots : List (Option Slot)) (root : Node) (i : ℕ) → IsTable slots root → option_map (λ (s : Slot). s.content) (slot_at slots i) ≡ option_map content_of (find i root)
-table-content slots root i t =
-    content-cases (find i root) (slot_at slots i) (Holds-find slots None 0 i root t.held) (t.live i)
-
-is_some-option_map : {X Y : Type 0} (f : X → Y) (o : Option X) → is_some o ≡ is_some (option_map f o)
-is_some-option_map f None = refl
-is_some-option_map f (Some x) = refl
-
-pub table-live : (slots : List (Option Slot)) (root : Node) (i : ℕ) → IsTable slots root → is_some (slot_at slots i) ≡ is_some (find i root)
-table-live slots root i t =
-    is_some-option_map (λ (s : Slot). s.content) (slot_at slots i)
-    ∙ (ap is_some (table-content slots root i t) ∙ sym (is_some-option_map content_of (find i root)))
-
-kids_in-content : (n : Node) → kids_in (content_of n) ≡ ids_of (children_of n)
-kids_in-content (element id name attributes kids) = refl
-kids_in-content (text id cs) = refl
-
-kids-cases : (o : Option Node) (s : Option Slot) → option_map (λ (s : Slot). s.content) s ≡ option_map content_of o
-    → kids_of_slot s ≡ unwrap_or (option_map (λ n. ids_of (children_of n)) o) []
-kids-cases (Some n) (Some s) e = ap kids_in (same_Some _ _ e) ∙ kids_in-content n
-kids-cases None None e = refl
-kids-cases (Some n) None e = absurd (none-some _ e)
-kids-cases None (Some s) e = absurd (none-some _ (sym e))
-
-pub table-kids : (slots : List (Option Slot)) (root : Node) (i : ℕ) → IsTable slots root → kids_at slots i ≡ unwrap_or (option_map (λ n. ids_of (children_of n)) (find i root)) []
-table-kids slots root i t = kids-cases (find i root) (slot_at slots i) (table-content slots root i t)
-
-pub table-child_count : (slots : List (Option Slot)) (root : Node) (i : ℕ) → IsTable slots root → length (kids_at slots i) ≡ child_count i root
-table-child_count slots root i t = ap length (table-kids slots root i t)
-
-first-found : (o : Option Node) → first (unwrap_or (option_map (λ n. ids_of (children_of n)) o) []) ≡ option_and_then (λ n. first (ids_of (children_of n))) o
-first-found None = refl
-first-found (Some n) = refl
-
-pub table-first_child : (slots : List (Option Slot)) (root : Node) (i : ℕ) → IsTable slots root → first (kids_at slots i) ≡ first_child_of i root
-table-first_child slots root i t = ap first (table-kids slots root i t) ∙ first-found (find i root)
-
-name-content : (n : Node) → name_of_content (content_of n) ≡ name_of n
-name-content (element id name attributes kids) = refl
-name-content (text id cs) = refl
-
-name-cases : (o : Option Node) (s : Option Slot) → option_map (λ (s : Slot). s.content) s ≡ option_map content_of o → name_in s ≡ option_and_then name_of o
-name-cases (Some n) (Some s) e = ap name_of_content (same_Some _ _ e) ∙ name-content n
-name-cases None None e = refl
-name-cases (Some n) None e = absurd (none-some _ e)
-name-cases None (Some s) e = absurd (none-some _ (sym e))
-
-pub table-name : (slots : List (Option Slot)) (root : Node) (i : ℕ) → IsTable slots root → name_in (slot_at slots i) ≡ name_at i root
-table-name slots root i t = name-cases (find i root) (slot_at slots i) (table-content slots root i t)
-
--- ---- parents and siblings
-
-absent : (s : Option Slot) → is_some s ≡ false → parent_in_slot s ≡ None
-absent None e = refl
-absent (Some s) e = absurd (false≢true (sym e))
-
--- a node without a parent is the root, or not live
-pub parentless : (slots : List (Option Slot)) (root : Node) (i : ℕ) → IsTable slots root → is_some (parent_in i root) ≡ false → parent_in_slot (slot_at slots i) ≡ None
-parentless slots root i t e = elim (cases_Bool (i == id_of root)) [
-  | inl b ↦ ap parent_in_slot (ap (slot_at slots) (eqb-true i (id_of root) b) ∙ Holds-top slots None 0 root t.held)
-  | inr f ↦
-      let none : is_some (slot_at slots i) ≡ false = table-live slots root i t ∙ (find-parent i root ∙ (ap (λ b. b || is_some (parent_in i root)) f ∙ e)) in
-      absent (slot_at slots i) none
+chain-at : (place : ℕ → Option Place) (up : ℕ) (last : Option ℕ) (xs : List ℕ) (j : ℕ) → AreChained place up last xs None → IsAmong j xs
+    → place j ≡ Some (record { up = Some up; before = before j last xs; after = after j xs })
+chain-at place up last [] j h a = absurd a
+chain-at place up last (x ∷ xs) j h a = elim (cases_Bool (j == x)) [
+  | inl t ↦ rw t (ap place (eqb-true j x t) ∙ (h.0 ∙ ap (λ o. Some (record { up = Some up; before = last; after = o })) (front-first xs)))
+  | inr f ↦ rw f (chain-at place up (Some x) xs j h.1 (elim a [
+    | inl e ↦ absurd (eqb-false j x f e)
+    | inr k ↦ k
+  ]))
 ]
 
-parent-cases : (slots : List (Option Slot)) (i : ℕ) (o : Option Node) → IfSome o (IsChild slots i) → (is_some o ≡ false → parent_in_slot (slot_at slots i) ≡ None)
-    → parent_in_slot (slot_at slots i) ≡ option_and_then (λ p. Some (id_of p)) o
-parent-cases slots i (Some p) h k = rw h.kid.slot refl
-parent-cases slots i None h k = k refl
+-- a child hangs where the tree says
+pub place-child : (c : Cells) (root : Node) (j p : ℕ) → AreDistinct (ids root) → AreLinked c root → parent_of j root ≡ Some p
+    → c.place j ≡ Some (record { up = Some p; before = prev_of j root; after = next_of j root })
+place-child c root j p d h up =
+    let listed : IsAmong j (child_ids p root) = parent-lists root j p d up in
+    let x = child-node root j p listed in
+    let number : p ≡ id_of x.0 = find-id p root x.0 x.1 in
+    let list : child_ids p root ≡ ids_of (children_of x.0) = child_ids-found p root x.0 x.1 in
+    let chain : AreChained c.place p None (child_ids p root) None =
+    subst (λ (xs : List ℕ). AreChained c.place p None xs None) (sym list) (subst (λ (q : ℕ). AreChained c.place q None (ids_of (children_of x.0)) None) (sym number) (h p x.0 x.1).1) in
+    chain-at c.place p None (child_ids p root) j chain listed
+    ∙ λ q. Some (record { up = Some p; before = sym (prev-listed root j p d up) q; after = sym (next-listed root j p d up) q })
 
-pub table-parent : (slots : List (Option Slot)) (root : Node) (i : ℕ) → IsTable slots root → parent_in_slot (slot_at slots i) ≡ parent_of i root
-table-parent slots root i t =
-    parent-cases slots i (parent_in i root) (Holds-parent slots None 0 i root t.held) (parentless slots root i t)
+-- ---- the tree
 
-next-parentless : (slots : List (Option Slot)) (s : Option Slot) → parent_in_slot s ≡ None → next_in slots s ≡ None
-next-parentless slots None e = refl
-next-parentless slots (Some s) e = ap (λ o. option_and_then (λ up. slice_get (kids_at slots up) (suc s.index)) o) e
+pub siblings-chain : (place : ℕ → Option Place) (up many : ℕ) (last : Option ℕ) (xs : List ℕ) → AreChained place up last xs None → length xs ≤ many → siblings place many (first xs) ≡ xs
+siblings-chain place up zero last [] h l = refl
+siblings-chain place up (suc k) last [] h l = refl
+siblings-chain place up zero last (x ∷ xs) h l = absurd (omega (arith, l))
+siblings-chain place up (suc k) last (x ∷ xs) h l =
+    ap (λ o. x ∷ siblings place k o) (ap (option_and_then (λ (p : Place). p.after)) h.0 ∙ front-first xs) ∙ ap (λ (r : List ℕ). x ∷ r) (siblings-chain place up k (Some x) xs h.1 (omega (arith, l)))
 
-next-cases : (slots : List (Option Slot)) (i : ℕ) (o : Option Node) → IfSome o (IsChild slots i) → (is_some o ≡ false → parent_in_slot (slot_at slots i) ≡ None)
-    → next_in slots (slot_at slots i) ≡ option_and_then (λ p. after i (ids_of (children_of p))) o
-next-cases slots i (Some p) h k =
-    ap (next_in slots) h.kid.slot ∙ (ap (λ ks. slice_get ks (suc (0 + h.kid.at))) h.kids ∙ (ap (λ k. slice_get (ids_of (children_of p)) (suc k)) (omega arith) ∙ sym h.kid.after))
-next-cases slots i None h k = next-parentless slots (slot_at slots i) (k refl)
+-- no list of children is longer than this
+abbrev pub AreFew : ℕ → Node → Type 0
+AreFew many root = (i : ℕ) (n : Node) → find i root ≡ Some n → length (ids_of (children_of n)) ≤ many
 
-pub table-next : (slots : List (Option Slot)) (root : Node) (i : ℕ) → IsTable slots root → next_in slots (slot_at slots i) ≡ next_of i root
-table-next slots root i t =
-    next-cases slots i (parent_in i root) (Holds-parent slots None 0 i root t.held) (parentless slots root i t)
+mutual
+  unfolding below
 
-prev-parentless : (slots : List (Option Slot)) (s : Option Slot) → parent_in_slot s ≡ None → prev_in slots s ≡ None
-prev-parentless slots None e = refl
-prev-parentless slots (Some s) e = ap (λ o. option_and_then (λ up. preceding None (kids_at slots up) s.index) o) e
+  pub below-linked : (c : Cells) (root : Node) (many k : ℕ) (n : Node) → AreDistinct (ids root) → AreLinked c root → AreFew many root → find (id_of n) root ≡ Some n → height n ≤ k → below c many k (id_of n) ≡ n
+  below-linked c root many zero (element id name attributes children) d h few f l = absurd (omega (arith, l))
+  below-linked c root many zero (text id cs) d h few f l = absurd (omega (arith, l))
+  below-linked c root many (suc k) (element id name attributes children) d h few f l =
+      let linked = h id (element id name attributes children) f in
+      ap (node_of c many (below c many k) id) linked.0
+      ∙ (ap (λ xs. element id name attributes (nodes_of (map (below c many k) xs))) (siblings-chain c.place id many None (ids_of children) linked.1 (few id (element id name attributes children) f))
+      ∙ ap (element id name attributes) (all_below-linked c root many k children d h few (find-children id root (element id name attributes children) d f) (omega (arith, l))))
+  below-linked c root many (suc k) (text id cs) d h few f l = ap (node_of c many (below c many k) id) (h id (text id cs) f).0
 
-prev-cases : (slots : List (Option Slot)) (i : ℕ) (o : Option Node) → IfSome o (IsChild slots i) → (is_some o ≡ false → parent_in_slot (slot_at slots i) ≡ None)
-    → prev_in slots (slot_at slots i) ≡ option_and_then (λ p. before i None (ids_of (children_of p))) o
-prev-cases slots i (Some p) h k =
-    ap (prev_in slots) h.kid.slot ∙ (ap (λ ks. preceding None ks (0 + h.kid.at)) h.kids ∙ (ap (λ k. preceding None (ids_of (children_of p)) k) (omega arith) ∙ sym (h.kid.before None)))
-prev-cases slots i None h k = prev-parentless slots (slot_at slots i) (k refl)
-
-pub table-prev : (slots : List (Option Slot)) (root : Node) (i : ℕ) → IsTable slots root → prev_in slots (slot_at slots i) ≡ prev_of i root
-table-prev slots root i t =
-    prev-cases slots i (parent_in i root) (Holds-parent slots None 0 i root t.held) (parentless slots root i t)
+  pub all_below-linked : (c : Cells) (root : Node) (many k : ℕ) (ns : Nodes) → AreDistinct (ids root) → AreLinked c root → AreFew many root → AreFound root ns → heights ns ≤ k → nodes_of (map (below c many k) (ids_of ns)) ≡ ns
+  all_below-linked c root many k no_nodes d h few f l = refl
+  all_below-linked c root many k (node n ns) d h few f l =
+      let one : below c many k (id_of n) ≡ n = below-linked c root many k n d h few f.0 (omega (arith, l)) in
+      let rest : nodes_of (map (below c many k) (ids_of ns)) ≡ ns = all_below-linked c root many k ns d h few f.1 (omega (arith, l)) in
+      λ j. node (one j) (rest j)

@@ -5,18 +5,23 @@ use Rattle.page_model.specs.declared.cause.Cause.{Cause}
 use Rattle.page_model.specs.declared.refusal.Refusal.{Refusal}
 use Rattle.page_model.specs.declared.refusal.Refusal.TheVariants as refusal
 use Rattle.dom_arena.specs.declared.fault.DocFault.{DocFault}
-use Rattle.dom_arena.specs.declared.fault.DocFault.TheVariants.{NoMemory, NoNode, NotElement, IsRoot, BadIndex, NodeLimit, DepthLimit, IdLimit}
+use Rattle.dom_arena.specs.declared.fault.DocFault.TheVariants.{NoMemory, NoNode, NotElement, NotText, IsRoot, Cycle, BadIndex, BadName, NodeLimit, DepthLimit, TextLimit, IdLimit, AttrLimit}
 
 -- the refusal of an edit that a fault becomes
 abbrev pub refusal_of_fault : DocFault → Refusal
 refusal_of_fault NoMemory = refusal.NoMemory
 refusal_of_fault NoNode = refusal.NoNode
 refusal_of_fault NotElement = refusal.NotElement
+refusal_of_fault NotText = refusal.NotText
 refusal_of_fault IsRoot = refusal.IsRoot
+refusal_of_fault Cycle = refusal.Cycle
 refusal_of_fault BadIndex = refusal.BadIndex
+refusal_of_fault BadName = refusal.BadName
 refusal_of_fault NodeLimit = refusal.NodeLimit
 refusal_of_fault DepthLimit = refusal.DepthLimit
+refusal_of_fault TextLimit = refusal.TextLimit
 refusal_of_fault IdLimit = refusal.IdLimit
+refusal_of_fault AttrLimit = refusal.AttrLimit
 
 -- the cause of a fault; want of memory has none
 abbrev pub cause_in : DocFault → Option Cause

@@ -1,68 +1,58 @@
--- What edits write into a table of slots.
-use Rattle.std.specs.Prelude.{◌≡◌, ◌-◌, length, ℕ, zero, suc, List, [], ◌∷◌, ◌++◌, Option, Some, None, option_map, unwrap_or, drop, slice_set}
-use Rattle.std.specs.List.{insert, remove}
-use Rattle.page_model.specs.Trees.{Tree}
-use Rattle.page_model.specs.Document.{with_ids}
-use Rattle.dom_arena.specs.Rows.{rows}
+-- What is written into slots when a node is hung below another, and when it is taken from there.
+use Rattle.std.specs.Prelude.{ℕ, ◌+◌, ◌-◌, min, List, Option, Some, None, slice_get, slice_set}
+use Rattle.dom_arena.specs.declared.link.Link.{Link}
 use Rattle.dom_arena.specs.declared.slot.Slot.{Slot}
-use Rattle.dom_arena.specs.declared.slot.Content.{Content}
-use Rattle.dom_arena.specs.declared.slot.Content.TheVariants.{Element, Chars}
-use Rattle.dom_arena.specs.Table.{slot_at, kids_in, kids_at, parent_in_slot}
+use Rattle.dom_arena.specs.Slots.{target}
+use Rattle.dom_arena.specs.Stores.{link_to}
 
--- the content with other children; a text has none
-abbrev pub content_with : List ℕ → Content → Content
-content_with ids (Element name attributes kids) = Element name attributes ids
-content_with ids (Chars cs) = Chars cs
+-- the slots in which the slot `x` is what `f` gives for it
+abbrev pub changed_to : List Slot → ℕ → (Slot → Slot) → Option Slot → List Slot
+changed_to slots x f None = slots
+changed_to slots x f (Some s) = slice_set slots x (f s)
 
--- the slot with this child among its children, with so many of them before it
-abbrev pub with_kid : ℕ → ℕ → Slot → Slot
-with_kid at id s = record s { content = content_with (insert (kids_in s.content) at id) s.content }
+abbrev pub changed : ℕ → (Slot → Slot) → List Slot → List Slot
+changed x f slots = changed_to slots x f (slice_get slots x)
 
--- the slot without the child before which so many stand
-abbrev pub without_kid : ℕ → Slot → Slot
-without_kid at s = record s { content = content_with (remove (kids_in s.content) at) s.content }
+abbrev pub with_place : Link → Link → Link → Slot → Slot
+with_place parent prev next s = record s { parent = parent; prev = prev; next = next }
 
--- the slot at another index among the parent's children
-abbrev pub with_index : ℕ → Slot → Slot
-with_index index s = record s { index = index }
+abbrev pub with_prev : Link → Slot → Slot
+with_prev l s = record s { prev = l }
 
--- the slots after a change of one that is live
-abbrev pub changed : (Slot → Slot) → ℕ → List (Option Slot) → List (Option Slot)
-changed f id slots = slice_set slots id (option_map f (slot_at slots id))
+abbrev pub with_next : Link → Slot → Slot
+with_next l s = record s { next = l }
 
--- the slots where these nodes have the indices from this one on
-unfoldable pub indexed : ℕ → List ℕ → List (Option Slot) → List (Option Slot)
-indexed index [] slots = slots
-indexed index (id ∷ ids) slots = indexed (suc index) ids (changed (with_index index) id slots)
+abbrev pub with_first : Link → Slot → Slot
+with_first l s = record s { first = l }
 
--- the slots where the children of this parent have their indices, from this one on
-abbrev pub lined_up : ℕ → ℕ → List (Option Slot) → List (Option Slot)
-lined_up parent from slots = indexed from (drop from (kids_at slots parent)) slots
+abbrev pub with_last : Link → Slot → Slot
+with_last l s = record s { last = l }
 
--- the slots where this parent has one more child, with so many before it
-abbrev pub attached : ℕ → ℕ → ℕ → List (Option Slot) → List (Option Slot)
-attached parent at id slots = lined_up parent at (changed (with_kid at id) parent slots)
+abbrev pub one_more : Slot → Slot
+one_more s = record s { children = min (s.children + 1) 4294967295 }
 
--- the slots with those of a new tree behind them, which is a child of this parent with so many before it
-abbrev pub enlarged : ℕ → ℕ → Tree → List (Option Slot) → List (Option Slot)
-enlarged parent at t slots = attached parent at (length slots) (slots
-    ++ rows (Some parent) at (with_ids (length slots) t))
+abbrev pub one_fewer : Slot → Slot
+one_fewer s = record s { children = s.children - 1 }
 
--- the slots where this parent has one child fewer, the one with so many before it
-abbrev pub detached : ℕ → ℕ → List (Option Slot) → List (Option Slot)
-detached parent at slots = lined_up parent at (changed (without_kid at) parent slots)
+-- the slots in which `to` comes after `prev` among the children of `parent`; without `prev` it is the first
+abbrev pub forward : ℕ → Option ℕ → Link → List Slot → List Slot
+forward parent None to slots = changed parent (with_first to) slots
+forward parent (Some x) to slots = changed x (with_next to) slots
 
--- the slots where these nodes are not live
-unfoldable pub cleared : List ℕ → List (Option Slot) → List (Option Slot)
-cleared [] slots = slots
-cleared (id ∷ ids) slots = cleared ids (slice_set slots id None)
+-- the slots in which `to` comes before `next` among the children of `parent`; without `next` it is the last
+abbrev pub back : ℕ → Option ℕ → Link → List Slot → List Slot
+back parent None to slots = changed parent (with_last to) slots
+back parent (Some x) to slots = changed x (with_prev to) slots
 
--- these nodes are gone, and the number of live ones went down by one for each
-abbrev pub Clears : List (Option Slot) → List (Option Slot) → ℕ → ℕ → List ℕ → Type 0
-Clears old new live live' ids = (new ≡ cleared ids old) × (live' ≡ live - length ids)
+-- the slots in which `child` hangs below `parent` between `prev` and `next`
+abbrev pub attached : ℕ → ℕ → Link → Link → List Slot → List Slot
+attached parent child prev next slots =
+    changed parent one_more
+    (back parent (target next) (link_to child)
+    (forward parent (target prev) (link_to child)
+    (changed child (with_place (link_to parent) prev next) slots)))
 
--- how many parents stand above a node, at most this many
-unfoldable pub parents_above : List (Option Slot) → ℕ → ℕ → ℕ
-parents_above slots zero id = 0
-parents_above slots (suc k) id = unwrap_or (option_map (λ up. suc (parents_above slots k up))
-    (parent_in_slot (slot_at slots id))) 0
+-- the slots in which the child of `parent` between `prev` and `next` is passed over
+abbrev pub detached : ℕ → Link → Link → List Slot → List Slot
+detached parent prev next slots =
+    changed parent one_fewer (back parent (target next) prev (forward parent (target prev) next slots))

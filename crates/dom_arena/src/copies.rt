@@ -1,144 +1,64 @@
-//! Copying a tree into a table of slots.
-ghost use Rattle.std.specs.Prelude.{◌≡◌, ◌+◌, ◌≤◌, ◌++◌, length, map, IfOk, OnOk, OnErr};
-ghost use Rattle.page_model.specs.Trees.{elem, characters, size, sizes, trees_of};
-ghost use Rattle.page_model.specs.Document.{with_ids, all_with_ids, ids_of};
-ghost use Rattle.page_model.specs.declared.limits.TheConstants.{MAX_IDS};
-ghost use Rattle.dom_arena.specs.Shape.{shape};
-ghost use Rattle.dom_arena.specs.Rows.{rows, all_rows, IsLonger};
+//! Copying what is kept of a document.
+ghost use Rattle.std.specs.Prelude.{◌≡◌, IfOk};
+ghost use Rattle.dom_arena.specs.Views.{kept};
 
-use super::child_ids::ChildIds;
-use super::slot::{Content, Slot};
-use super::tree::{Attribute, Attributes, Tree};
-use port_core::{NoMemory, NodeId, Seq, Text};
+use crate::slot::{Content, Slot};
+use crate::store::Store;
+use port_core::NoMemory;
 use std::alloc::Global;
 
-fn copy_text(alloc: Global, text: &Text) -> Result<Text, NoMemory>
-    ensures { IfOk result (λ copy. copy ≡ text.now) }
+fn copy_content(content: &Content, alloc: Global) -> Result<Content, NoMemory>
+    ensures { IfOk result (λ copy. copy ≡ content.now) }
 {
-    Text::new(alloc, text.as_str())
+    match content {
+        Content::Element(name, attributes) => {
+            let name = name.copy(alloc)?;
+            let attributes = attributes.copy(alloc)?;
+            Ok(Content::Element(name, attributes))
+        }
+        Content::Chars(text) => Ok(Content::Chars(text.copy(alloc)?)),
+        Content::Free(next) => Ok(Content::Free(*next)),
+    }
 }
 
-fn copy_attributes(alloc: Global, attributes: &[Attribute]) -> Result<Attributes, NoMemory>
-    ensures { IfOk result (λ copy. copy ≡ attributes.now) }
+fn copy_slot(slot: &Slot, alloc: Global) -> Result<Slot, NoMemory>
+    ensures { IfOk result (λ copy. copy ≡ slot.now) }
 {
-    let mut copy = Seq::new(alloc);
-    for (name, value) in attributes {
-        let name = copy_text(alloc, name)?;
-        let value = copy_text(alloc, value)?;
-        copy.push((name, value))?;
+    let content = copy_content(&slot.content, alloc)?;
+    Ok(Slot {
+        id: slot.id,
+        parent: slot.parent,
+        prev: slot.prev,
+        next: slot.next,
+        first: slot.first,
+        last: slot.last,
+        children: slot.children,
+        size: slot.size,
+        content,
+    })
+}
+
+fn copy_slots(slots: &[Slot], alloc: Global) -> Result<Vec<Slot>, NoMemory>
+    ensures { IfOk result (λ copy. copy.items ≡ slots.now) }
+{
+    let mut copy = Vec::with_capacity(alloc, slots.len())?;
+    for slot in slots {
+        copy.push(copy_slot(slot, alloc)?)?;
     }
     Ok(copy)
 }
 
-/// Copies a tree behind the slots, as the child of this parent at this index, and answers its number.
-#[cycle(append)]
-pub fn append(
-    alloc: Global,
-    slots: &mut Vec<Option<Slot>>,
-    tree: &Tree,
-    parent: Option<NodeId>,
-    index: usize,
-) -> Result<NodeId, NoMemory>
-    requires room { length slots.old.items + size (shape tree.now) ≤ MAX_IDS }
-    ensures number { IfOk result (λ id. id ≡ length slots.old.items) }
-    ensures copied { OnOk result (slots.new.items
-        ≡ slots.old.items
-        ++ rows parent index (with_ids (length slots.old.items) (shape tree.now))) }
-    ensures longer { OnErr result (IsLonger slots.old.items slots.new.items) }
+/// Returns a copy of the slots, the table and the list of free slots.
+pub fn copy_store(store: &Store, alloc: Global) -> Result<Store, NoMemory>
+    ensures { IfOk result (λ copy. kept copy ≡ kept store.now) }
 {
-    match tree {
-        Tree::Elem(name, attributes, children) => append_element(
-            alloc,
-            slots,
-            name,
-            attributes.as_slice(),
-            children.as_slice(),
-            parent,
-            index,
-        ),
-        Tree::Chars(text) => append_text(alloc, slots, text, parent, index),
-    }
-}
-
-fn append_text(
-    alloc: Global,
-    slots: &mut Vec<Option<Slot>>,
-    text: &Text,
-    parent: Option<NodeId>,
-    index: usize,
-) -> Result<NodeId, NoMemory>
-    requires room { length slots.old.items + 1 ≤ MAX_IDS }
-    ensures number { IfOk result (λ id. id ≡ length slots.old.items) }
-    ensures copied { OnOk result (slots.new.items
-        ≡ slots.old.items
-        ++ rows parent index (with_ids (length slots.old.items) (characters text.now))) }
-    ensures longer { OnErr result (IsLonger slots.old.items slots.new.items) }
-{
-    let id = slots.len() as NodeId;
-    let content = Content::Chars(copy_text(alloc, text)?);
-    slots.push(Some(Slot {
-        parent,
-        index,
-        content,
-    }))?;
-    Ok(id)
-}
-
-/// The element's slot stays empty until its children, whose numbers it holds, stand behind it.
-#[cycle(append)]
-fn append_element(
-    alloc: Global,
-    slots: &mut Vec<Option<Slot>>,
-    name: &Text,
-    attributes: &[Attribute],
-    children: &[Tree],
-    parent: Option<NodeId>,
-    index: usize,
-) -> Result<NodeId, NoMemory>
-    requires room { length slots.old.items + size
-        (elem name.now attributes.now (trees_of (map shape children.now))) ≤ MAX_IDS }
-    ensures number { IfOk result (λ id. id ≡ length slots.old.items) }
-    ensures copied { OnOk result (slots.new.items
-        ≡ slots.old.items
-        ++ rows parent index (with_ids (length slots.old.items)
-        (elem name.now attributes.now (trees_of (map shape children.now))))) }
-    ensures longer { OnErr result (IsLonger slots.old.items slots.new.items) }
-{
-    let id = slots.len() as NodeId;
-    slots.push(None)?;
-    let children = append_all(alloc, slots, children, id)?;
-    let name = copy_text(alloc, name)?;
-    let attributes = copy_attributes(alloc, attributes)?;
-    let content = Content::Element(name, attributes, children);
-    slots[id as usize] = Some(Slot {
-        parent,
-        index,
-        content,
-    });
-    Ok(id)
-}
-
-/// Copies the children of this parent, and answers their numbers.
-#[cycle(append)]
-fn append_all(
-    alloc: Global,
-    slots: &mut Vec<Option<Slot>>,
-    children: &[Tree],
-    parent: NodeId,
-) -> Result<ChildIds, NoMemory>
-    requires room { length slots.old.items + sizes (trees_of (map shape children.now)) ≤ MAX_IDS }
-    ensures numbers { IfOk result (λ numbers. numbers
-        ≡ ids_of (all_with_ids (length slots.old.items) (trees_of (map shape children.now)))) }
-    ensures copied { OnOk result (slots.new.items
-        ≡ slots.old.items
-        ++ all_rows parent 0 (all_with_ids (length slots.old.items)
-        (trees_of (map shape children.now)))) }
-    ensures longer { OnErr result (IsLonger slots.old.items slots.new.items) }
-{
-    let mut numbers = ChildIds::new(alloc);
-    for i in 0..children.len() {
-        let number = append(alloc, slots, &children[i], Some(parent), i)?;
-        numbers.push(number)?;
-    }
-    Ok(numbers)
+    let slots = copy_slots(store.slots.as_slice(), alloc)?;
+    let table = Vec::from_slice(alloc, store.table.as_slice())?;
+    Ok(Store {
+        slots,
+        table,
+        free: store.free,
+        live: store.live,
+        code_points: store.code_points,
+    })
 }

@@ -1,215 +1,333 @@
-ghost use Rattle.std.specs.Prelude.{◌≡◌, ◌≤◌, ◌<◌, ℕ, ◌↔◌, IsTrue, true, is_some, IsSome, IfOk, IfErr, OnOk, OnErr, ◌≢◌, unwrap_or, option_map, encode_utf8_all};
-ghost use Rattle.page_model.specs.Document.{Node, document, id_of, children_of, name_of, find, parent_of, first_child_of, name_at, next_of, prev_of, AreDistinct, IsAmong, ids, height, node_count};
-ghost use Rattle.page_model.specs.Trees.{is_elem, size, depth};
-ghost use Rattle.page_model.specs.declared.limits.TheConstants.{MAX_NODES, MAX_DEPTH, MAX_IDS};
-ghost use Rattle.page_model.specs.Edits.{load_causes, document_after_insert, insert_causes, document_after_remove, remove_causes, child_count, level};
-ghost use Rattle.dom_arena.specs.Faults.{AnswersBy, ChecksBy};
-ghost use Rattle.page_model.specs.Document.{child_ids};
-ghost use Rattle.dom_arena.specs.Children.{AreFound};
+//! The document (DOM sections 1.1 and 4.2.3).
+ghost use Rattle.dom_arena.specs.Docs.{IsDocument};
+ghost use Rattle.dom_arena.specs.Faults.{AnswersBy};
+ghost use Rattle.dom_arena.specs.Found.{AreFound};
 ghost use Rattle.dom_arena.specs.Shape.{shape};
+ghost use Rattle.page_laws.specs.Limits.{KeepsLimits};
+ghost use Rattle.page_model.specs.Document.{Node, child_ids, children_of, document, find, first_child_of, id_of, name_at, next_of, parent_of, prev_of, text_at, value_at};
+ghost use Rattle.page_model.specs.Edits.{document_after_drop_attr, document_after_insert, document_after_move, document_after_remove, document_after_set_attr, document_after_set_text, drop_attr_causes, insert_causes, load_causes, move_causes, remove_causes, set_attr_causes, set_text_causes};
+ghost use Rattle.page_model.specs.Trees.{is_elem};
+ghost use Rattle.page_model.specs.declared.limits.TheConstants.{MAX_NODES};
+ghost use Rattle.std.specs.Prelude.{IfErr, IfOk, OnErr, OnOk, encode_utf8_all, is_some, option_map, true, ◌≡◌, ◌≢◌, ◌≤◌};
+ghost use Rattle.std.specs.Str.{chars};
 
-use super::children::Children;
-use super::fault::DocFault;
-use super::slot::Slot;
-use super::tree::Tree;
-use super::{copies, edits, limits, table};
-use page_model::MAX_DEPTH;
-use port_core::NodeId;
+use crate::build::build;
+use crate::children::Children;
+use crate::copies::copy_store;
+use crate::fault::DocFault;
+use crate::insert::{insert_slot, insert_tree};
+use crate::limits::{self, Taken};
+use crate::move_to::{check_move, move_tree};
+use crate::remove::{inner_slot, remove_tree};
+use crate::store::Store;
+use crate::tree::Tree;
+use crate::{contents, elements, reading};
+use port_core::{NoMemory, NodeId};
 use std::alloc::Global;
 use std::marker::Model;
 
-/// The root has the first number, and never leaves the document.
-const ROOT: NodeId = 0;
-
-/// A document: a tree of elements and texts, each with a number of its own.
+/// A document: a tree of elements and texts, each with an id of its own. An id is never given
+/// again.
 ///
-/// The nodes stand in a vector, each at the index that is its number. A number is not used again: where its node has left the document, the vector keeps a `None`. How many nodes are live is counted along.
+/// Nodes are kept in slots that name each other; the slot of a removed node is taken again.
 #[derive(Debug, Drop)]
 pub struct Doc {
     alloc: Global,
-    slots: Vec<Option<Slot>>,
-    live: u32,
+    store: Store,
+    /// The slot of the root.
+    root: u32,
 }
 
 impl Model for Doc {
-    ghost use Rattle.std.specs.Prelude.{length};
-    ghost use Rattle.page_model.specs.Document.{Document};
-    ghost use Rattle.page_model.specs.DocumentCode.{coded_document};
+    ghost use Rattle.dom_arena.specs.Docs.{Seen, IsDoc, document_in};
+    ghost use Rattle.dom_arena.specs.SeenCode.{coded_seen};
+    ghost use Rattle.dom_arena.specs.Views.{kept};
 
-    ghost Value = { Document };
+    ghost Value = { Seen };
 
-    ghost coded = { coded_document };
+    ghost coded = { coded_seen };
 
-    ghost use Rattle.std.specs.Prelude.{◌≡◌};
-    ghost use Rattle.page_model.specs.Document.{node_count};
-    ghost use Rattle.dom_arena.specs.Table.{tree_in, IsTable};
+    ghost view = { λ d. record { document = document_in (kept d.store) d.root } };
 
-    ghost view = { λ d. record { root = tree_in d.slots.items; next_id = length d.slots.items } };
-
-    ghost invariant = { λ d. IsTable d.slots.items (tree_in d.slots.items)
-        × (d.live ≡ node_count (tree_in d.slots.items)) };
+    ghost invariant = { λ d. IsDoc (kept d.store) d.root };
 }
 
 impl Doc {
-    /// The document of a tree, whose nodes get the numbers from 0 on in document order.
+    /// Makes the document of a tree, the nodes of which get the ids from 0 on in document order
+    /// (DOM section 1.1). Its time and memory are linear in the nodes and code points of the tree.
     ///
-    /// Refused with `DepthLimit` where a node stands deeper than 96, and with `NodeLimit` where there are more than 20,000 nodes. Its time is linear in the number of nodes, also where it refuses, and its recursion as deep as the tree, at most 96 levels.
+    /// # Errors
+    ///
+    /// The first limit that the tree would break, of `BadName`, `AttrLimit`, `TextLimit`,
+    /// `DepthLimit`, `NodeLimit`, `IdLimit`; or `NoMemory`.
     pub fn new(alloc: Global, tree: &Tree) -> Result<Doc, DocFault>
         requires element { is_elem (shape tree.now) ≡ true }
-        ensures document { IfOk result (λ doc. doc ≡ document (shape tree.now)) }
+        ensures document { IfOk result (λ doc. doc.document ≡ document (shape tree.now)) }
         ensures causes { AnswersBy (load_causes (shape tree.now)) result }
     {
-        limits::check(tree, 0, 0, 0)?;
-        let mut slots = Vec::new(alloc);
-        copies::append(alloc, &mut slots, tree, None, 0)?;
-        let live = slots.len() as u32;
-        Ok(Doc { alloc, slots, live })
+        limits::check(tree, Taken::nothing())?;
+        Ok(load(alloc, tree)?)
     }
 
-    /// The root's number.
+    /// Returns the id of the root, in constant time (DOM section 1.1).
     pub fn root(&self) -> NodeId
-        ensures value { result ≡ id_of self.now.root }
-
-        // what holds of each document
-        ensures element { IsSome (name_of self.now.root) }
-        ensures distinct { AreDistinct (ids self.now.root) }
-        ensures numbered { (i : ℕ) → IsAmong i (ids self.now.root) → i < self.now.next_id }
-        ensures given { self.now.next_id ≤ MAX_IDS }
-        ensures few { node_count self.now.root ≤ MAX_NODES }
-        ensures low { height self.now.root ≤ MAX_DEPTH }
+        ensures value { result ≡ id_of self.now.document.root }
+        ensures facts { IsDocument self.now.document }
     {
-        // A read of the slots lets the proof see what holds of each document.
-        let _ = &self.slots;
-        ROOT
+        self.store.id_in(self.root)
     }
 
-    /// The number that the next new node gets: so many were given since the document was made.
+    /// Returns the id that the next new node gets, which is the number of ids that were given, in
+    /// constant time.
     pub fn next_id(&self) -> NodeId
-        ensures { result ≡ self.now.next_id }
+        ensures value { result ≡ self.now.document.next_id }
+        ensures facts { IsDocument self.now.document }
     {
-        self.slots.len() as NodeId
+        self.store.table.len() as NodeId
     }
 
-    /// Whether the document has a node with this number.
+    /// Returns how many slots are kept, live and free, in constant time.
+    pub fn slots(&self) -> usize
+        ensures { result ≤ MAX_NODES }
+    {
+        self.store.slots.len()
+    }
+
+    /// Whether the document has the node `id`; in constant time.
     pub fn is_live(&self, id: NodeId) -> bool
-        ensures { result ≡ is_some (find id self.now.root) }
+        ensures value { result ≡ is_some (find id self.now.document.root) }
+        ensures facts { IsDocument self.now.document }
     {
-        table::live_slot(self.slots.as_slice(), id).is_some()
+        self.store.slot(id).is_some()
     }
 
-    /// The name of an element.
+    /// Returns the name of the element `id`, or `None` for another node, in constant time (DOM
+    /// section 4.9, localName).
     pub fn tag(&self, id: NodeId) -> Option<&str>
-        ensures { option_map (λ s. s.now) result ≡ option_map encode_utf8_all (name_at id self.now.root) }
+        ensures { option_map (λ s. s.now) result
+            ≡ option_map encode_utf8_all (name_at id self.now.document.root) }
     {
-        table::name(self.slots.as_slice(), id)
+        reading::name(self.store.slot(id))
     }
 
-    /// The first child of an element.
+    /// Returns the code points of the text `id`, or `None` for another node, in constant time (DOM
+    /// section 4.10, data).
+    pub fn text(&self, id: NodeId) -> Option<&str>
+        ensures { option_map (λ s. s.now) result
+            ≡ option_map encode_utf8_all (text_at id self.now.document.root) }
+    {
+        reading::text(self.store.slot(id))
+    }
+
+    /// Returns the value of the attribute `name` of the element `id` (DOM section 4.9,
+    /// getAttribute). Its time is linear in the names of the element's attributes.
+    pub fn attr(&self, id: NodeId, name: &str) -> Option<&str>
+        ensures { option_map (λ s. s.now) result
+            ≡ option_map encode_utf8_all (value_at (chars name.now) id self.now.document.root) }
+    {
+        reading::value(self.store.slot(id), name)
+    }
+
+    /// Returns the first child of the element `id`, in constant time (DOM section 4.4, firstChild).
     pub fn first_child(&self, id: NodeId) -> Option<NodeId>
-        ensures { result ≡ first_child_of id self.now.root }
+        ensures { result ≡ first_child_of id self.now.document.root }
     {
-        table::first_child(self.slots.as_slice(), id)
+        self.store.id_behind(reading::first(self.store.slot(id)))
     }
 
-    /// The children of an element, in order. A text has none.
-    pub fn children(&self, id: NodeId) -> Children<'_>
-        ensures children { result ≡ child_ids id self.now.root }
-        ensures found { (n : Node) → find id self.now.root ≡ Some n → AreFound self.now.root (children_of n) }
-    {
-        Children::over(table::children(self.slots.as_slice(), id))
-    }
-
-    /// The element that has this node among its children.
+    /// Returns the element that has the node `id` among its children, in constant time (DOM section
+    /// 4.4, parentNode).
     pub fn parent(&self, id: NodeId) -> Option<NodeId>
-        ensures { result ≡ parent_of id self.now.root }
+        ensures { result ≡ parent_of id self.now.document.root }
     {
-        table::parent(self.slots.as_slice(), id)
+        self.store.id_behind(reading::parent(self.store.slot(id)))
     }
 
-    /// The sibling right after this node.
+    /// Returns the sibling right after the node `id`, in constant time (DOM section 4.4,
+    /// nextSibling).
     pub fn next(&self, id: NodeId) -> Option<NodeId>
-        ensures { result ≡ next_of id self.now.root }
+        ensures { result ≡ next_of id self.now.document.root }
     {
-        table::next(self.slots.as_slice(), id)
+        self.store.id_behind(reading::next(self.store.slot(id)))
     }
 
-    /// The sibling right before this node.
+    /// Returns the sibling right before the node `id`, in constant time (DOM section 4.4,
+    /// previousSibling).
     pub fn prev(&self, id: NodeId) -> Option<NodeId>
-        ensures { result ≡ prev_of id self.now.root }
+        ensures { result ≡ prev_of id self.now.document.root }
     {
-        table::prev(self.slots.as_slice(), id)
+        self.store.id_behind(reading::prev(self.store.slot(id)))
     }
 
-    /// Puts a new tree among the children of an element, with so many of them before it, and answers its number. The new nodes get the next numbers, in document order.
+    /// Returns the ids of the children of the node `id`, in order (DOM section 4.4, childNodes). A
+    /// text has none. The call and each step take constant time, and no memory.
+    pub fn children(&self, id: NodeId) -> Children<'_>
+        ensures children { result ≡ child_ids id self.now.document.root }
+        ensures found { (n : Node) → find id self.now.document.root ≡ Some n
+            → AreFound self.now.document.root (children_of n) }
+    {
+        let at = self.store.slot(id);
+        Children::from(&self.store, reading::first(at), reading::count(at))
+    }
+
+    /// Puts a new tree below the element `parent`, as its child at `index`, and returns the id of
+    /// its root. The new nodes get the next ids, in document order (DOM section 4.2.3, insert).
     ///
-    /// Refused with `NoNode`, `NotElement`, `BadIndex` where the element has fewer children than that, `DepthLimit`, `NodeLimit` or `IdLimit`, by the first that holds; then, and where memory runs out, nothing is changed. Its time is linear in the number of the parent's children and of new nodes.
+    /// The links take constant time, and the place of `index` is walked to from the nearer end;
+    /// besides, the time is linear in the level of `parent` and in the nodes and code points of the
+    /// tree. Free slots are taken before new ones; an id takes 4 bytes.
+    ///
+    /// # Errors
+    ///
+    /// The first of `NoNode`; `NotElement`; `BadIndex` where the element has fewer children than
+    /// `index`; the limits that would be broken: `BadName`, `AttrLimit`, `TextLimit`, `DepthLimit`,
+    /// `NodeLimit`, `IdLimit`; or `NoMemory`. Then nothing has changed.
     pub fn insert(&mut self, parent: NodeId, index: usize, tree: &Tree) -> Result<NodeId, DocFault>
-        ensures inserted { OnOk result (self.new
-            ≡ document_after_insert parent index (shape tree.now) self.old) }
-        ensures number { IfOk result (λ id. id ≡ self.old.next_id) }
-        ensures causes { AnswersBy (insert_causes parent index (shape tree.now) self.old) result }
+        ensures inserted { OnOk result (self.new.document
+            ≡ document_after_insert parent index (shape tree.now) self.old.document) }
+        ensures number { IfOk result (λ id. id ≡ self.old.document.next_id) }
+        ensures causes { AnswersBy (insert_causes parent index (shape tree.now)
+            self.old.document) result }
         ensures kept { OnErr result (self.new ≡ self.old) }
     {
-        self.may_insert(parent, index, tree)?;
-        let given = self.slots.len();
-        let id = edits::insert(self.alloc, &mut self.slots, tree, parent, index)?;
-        self.live += (self.slots.len() - given) as u32;
+        let at = insert_slot(&self.store, parent, index, tree)?;
+        let id = self.next_id();
+        insert_tree(&mut self.store, self.alloc, at, index, tree)?;
         Ok(id)
     }
 
-    /// Why an insert is refused, if it is.
-    fn may_insert(&self, parent: NodeId, index: usize, tree: &Tree) -> Result<(), DocFault>
-        ensures { ChecksBy (insert_causes parent index (shape tree.now) self.now) result }
-    {
-        if !self.is_live(parent) {
-            return Err(DocFault::NoNode);
-        }
-        if self.tag(parent).is_none() {
-            return Err(DocFault::NotElement);
-        }
-        if index > self.child_count(parent) {
-            return Err(DocFault::BadIndex);
-        }
-        limits::check(tree, self.level(parent), self.live, self.next_id())
-    }
-
-    /// How many children a node has.
-    fn child_count(&self, id: NodeId) -> usize
-        ensures { result ≡ child_count id self.now.root }
-    {
-        table::children(self.slots.as_slice(), id).len()
-    }
-
-    /// The level of a node, where the root stands at 1.
-    fn level(&self, id: NodeId) -> u32
-        requires live { is_some (find id self.now.root) ≡ true }
-        ensures value { result ≡ unwrap_or (level id self.now.root) 0 }
-        ensures low { result ≤ MAX_DEPTH }
-    {
-        table::level(self.slots.as_slice(), id)
-    }
-
-    /// Takes a node out, with all below it. It takes no memory.
+    /// Takes the node `id` out, with all below it (DOM section 4.2.3, remove).
     ///
-    /// Refused with `NoNode`, and with `IsRoot` for the root; then nothing is changed. Its time is linear in the number of the parent's children and of the nodes that go.
+    /// The links take constant time; the time is linear in the nodes that go. It takes no memory:
+    /// their slots become free, and their ids are not given again.
+    ///
+    /// # Errors
+    ///
+    /// The first of `NoNode`; `IsRoot` for the root. Then nothing has changed.
     pub fn remove(&mut self, id: NodeId) -> Result<(), DocFault>
-        ensures removed { OnOk result (self.new ≡ document_after_remove id self.old) }
-        ensures causes { AnswersBy (remove_causes id self.old) result }
+        ensures removed { OnOk result (self.new.document
+            ≡ document_after_remove id self.old.document) }
+        ensures causes { AnswersBy (remove_causes id self.old.document) result }
         ensures without_memory { IfErr result (λ e. e ≢ DocFault.NoMemory) }
         ensures kept { OnErr result (self.new ≡ self.old) }
     {
-        if !self.is_live(id) {
-            return Err(DocFault::NoNode);
-        }
-        let Some((parent, index)) = table::parent_and_index(self.slots.as_slice(), id) else {
-            return Err(DocFault::IsRoot);
-        };
-        let slots = self.slots.as_mut_slice();
-        edits::clear(slots, &mut self.live, id, MAX_DEPTH);
-        edits::detach(slots, parent, index);
+        let at = inner_slot(&self.store, self.root, id)?;
+        remove_tree(&mut self.store, at);
         Ok(())
+    }
+
+    /// Makes the node `id` the child at `index` of `parent`; `index` counts the children without it
+    /// (DOM section 4.2.3, remove and insert).
+    ///
+    /// The links take constant time, and the place of `index` is walked to from the nearer end;
+    /// besides, the time is linear in the level of `parent` and in the nodes below `id`. It takes
+    /// no memory.
+    ///
+    /// # Errors
+    ///
+    /// The first of `NoNode` for either node; `IsRoot` for the root; `NotElement` where `parent` is
+    /// a text; `Cycle` where it is the node itself or stands below it; `BadIndex` where it has
+    /// fewer other children than `index`; `DepthLimit`. Then nothing has changed.
+    pub fn move_to(&mut self, id: NodeId, parent: NodeId, index: usize) -> Result<(), DocFault>
+        ensures moved { OnOk result (self.new.document
+            ≡ document_after_move id parent index self.old.document) }
+        ensures causes { AnswersBy (move_causes id parent index self.old.document) result }
+        ensures without_memory { IfErr result (λ e. e ≢ DocFault.NoMemory) }
+        ensures kept { OnErr result (self.new ≡ self.old) }
+    {
+        let Some(at) = self.store.at(id) else {
+            return Err(DocFault::NoNode);
+        };
+        let Some(up) = self.store.at(parent) else {
+            return Err(DocFault::NoNode);
+        };
+        check_move(&self.store, self.root, at, up, index)?;
+        move_tree(&mut self.store, at, up, index);
+        Ok(())
+    }
+
+    /// Gives the element `id` the attribute `name` with this value, in place of one that is there
+    /// (DOM section 4.9, setAttribute).
+    ///
+    /// Its time is linear in the code points of `name`, of `value`, of the value that was there and
+    /// of the names of the element's attributes. It takes memory for a copy of `name` and `value`.
+    ///
+    /// # Errors
+    ///
+    /// The first of `NoNode`; `NotElement`; `BadName`; `TextLimit`; `AttrLimit`; or `NoMemory`.
+    /// Then nothing has changed.
+    pub fn set_attr(&mut self, id: NodeId, name: &str, value: &str) -> Result<(), DocFault>
+        ensures set { OnOk result (self.new.document
+            ≡ document_after_set_attr id (chars name.now) (chars value.now) self.old.document) }
+        ensures causes { AnswersBy (set_attr_causes id (chars name.now) (chars value.now)
+            self.old.document) result }
+        ensures kept { OnErr result (self.new ≡ self.old) }
+    {
+        elements::set_attr(&mut self.store, self.alloc, id, name, value)
+    }
+
+    /// Takes the attribute `name` from the element `id`, if it is there (DOM section 4.9,
+    /// removeAttribute).
+    ///
+    /// Its time is linear in the code points of the names of the element's attributes and of the
+    /// value that goes. It takes no memory.
+    ///
+    /// # Errors
+    ///
+    /// The first of `NoNode`; `NotElement`. Then nothing has changed.
+    pub fn drop_attr(&mut self, id: NodeId, name: &str) -> Result<(), DocFault>
+        ensures dropped { OnOk result (self.new.document
+            ≡ document_after_drop_attr id (chars name.now) self.old.document) }
+        ensures causes { AnswersBy (drop_attr_causes id self.old.document) result }
+        ensures without_memory { IfErr result (λ e. e ≢ DocFault.NoMemory) }
+        ensures kept { OnErr result (self.new ≡ self.old) }
+    {
+        elements::drop_attr(&mut self.store, id, name)
+    }
+
+    /// Gives the text `id` these code points (DOM section 4.10, replace data).
+    ///
+    /// Its time is linear in the code points of `text`. It takes memory for a copy of them.
+    ///
+    /// # Errors
+    ///
+    /// The first of `NoNode`; `NotText`; `TextLimit`; or `NoMemory`. Then nothing has changed.
+    pub fn set_text(&mut self, id: NodeId, text: &str) -> Result<(), DocFault>
+        ensures set { OnOk result (self.new.document
+            ≡ document_after_set_text id (chars text.now) self.old.document) }
+        ensures causes { AnswersBy (set_text_causes id (chars text.now) self.old.document) result }
+        ensures kept { OnErr result (self.new ≡ self.old) }
+    {
+        contents::set_text(&mut self.store, self.alloc, id, text)
+    }
+
+    /// Returns a document of its own with the same nodes, ids and next id.
+    ///
+    /// Its time and memory are linear in the slots, live and free, in the ids that were given and
+    /// in the code points of all names, texts and attributes.
+    ///
+    /// # Errors
+    ///
+    /// `NoMemory` where there is none for the copy.
+    pub fn copy(&self, alloc: Global) -> Result<Doc, NoMemory>
+        ensures { IfOk result (λ doc. doc ≡ self.now) }
+    {
+        let store = copy_store(&self.store, alloc)?;
+        Ok(Doc {
+            alloc,
+            store,
+            root: self.root,
+        })
     }
 }
 
-#[cfg(test)]
-mod tests;
+/// Loads a tree that breaks no limit.
+fn load(alloc: Global, tree: &Tree) -> Result<Doc, NoMemory>
+    requires element { is_elem (shape tree.now) ≡ true }
+    requires limits { KeepsLimits (document (shape tree.now)) }
+    ensures { IfOk result (λ doc. doc.document ≡ document (shape tree.now)) }
+{
+    let mut store = Store::new(alloc);
+    let root = build(&mut store, alloc, tree)?;
+    Ok(Doc { alloc, store, root })
+}

@@ -1,84 +1,89 @@
-//! How large a document may become, and what is refused for it.
-ghost use Rattle.std.specs.Prelude.{◌≡◌, ◌↔◌, ◌+◌, ◌≤◌, ◌<◌, IsTrue, MatchOption, map, min};
-ghost use Rattle.page_model.specs.Trees.{size, sizes, depth, depths, trees_of};
-ghost use Rattle.page_model.specs.declared.limits.TheConstants.{MAX_NODES, MAX_DEPTH, MAX_IDS};
-ghost use Rattle.page_model.specs.Edits.{tree_causes};
-ghost use Rattle.dom_arena.specs.Shape.{shape};
+//! What is refused of a new tree for the limits of documents.
+ghost use Rattle.std.specs.Prelude.{◌≡◌, ◌∷◌, [], ◌+◌, ◌||◌, nat_lt};
+ghost use Rattle.page_model.specs.declared.limits.TheConstants.{MAX_DEPTH, MAX_IDS, MAX_NODES, MAX_TEXTS};
+ghost use Rattle.page_model.specs.declared.cause.Cause.TheVariants as cause;
+ghost use Rattle.page_model.specs.Edits.{nothing_taken, tree_causes};
 ghost use Rattle.dom_arena.specs.Faults.{ChecksBy};
+ghost use Rattle.dom_arena.specs.Measures.{taken_of};
+ghost use Rattle.dom_arena.specs.Shape.{shape};
 
-use super::fault::DocFault;
-use super::tree::Tree;
-use page_model::{MAX_DEPTH, MAX_IDS, MAX_NODES};
+use crate::fault::DocFault;
+use crate::sizes::{Measured, measure};
+use crate::tree::Tree;
+use page_model::{MAX_DEPTH, MAX_IDS, MAX_NODES, MAX_TEXTS};
 
-/// Whether a new tree may stand below a node of this level, where so many nodes live and so many numbers were given.
-///
-/// The depth is asked first, as that is the first refusal, and for it all of a tree may be read that is not too deep. The nodes are counted once, as far as the room that the node limit leaves.
-pub fn check(tree: &Tree, above: u32, live: u32, given: u32) -> Result<(), DocFault>
-    requires above { above ≤ MAX_DEPTH }
-    requires live { live ≤ MAX_NODES }
-    requires given { given ≤ MAX_IDS }
-    ensures { ChecksBy (tree_causes
-        (record { level = above; nodes = live; ids = given; code_points = 0 }) (shape tree.now)) result }
+/// How much of the limits is taken where a new tree is to stand.
+#[derive(Clone, Copy, Debug, PartialEq, Eq)]
+pub struct Taken {
+    /// The level of the node above the tree, or 0.
+    pub level: u32,
+    /// The number of live nodes.
+    pub nodes: u32,
+    /// The number of ids that were given.
+    pub ids: u32,
+    /// The number of code points of all texts and values of attributes.
+    pub code_points: u32,
+}
+
+impl Taken {
+    /// Returns what is taken before anything is loaded.
+    pub fn nothing() -> Taken
+        ensures { taken_of result ≡ nothing_taken }
+    {
+        Taken {
+            level: 0,
+            nodes: 0,
+            ids: 0,
+            code_points: 0,
+        }
+    }
+}
+
+/// Refuses names, numbers of attributes and texts.
+fn check_grammar(tree: Measured, taken: Taken) -> Result<(), DocFault>
+    ensures { ChecksBy ((tree.bad_name, cause.BadName) ∷ (tree.many_attributes, cause.AttrLimit)
+        ∷ (tree.long_text || nat_lt MAX_TEXTS (taken.code_points + tree.code_points), cause.TextLimit)
+        ∷ []) result }
 {
-    if !is_within(tree, MAX_DEPTH - above) {
+    if tree.bad_name {
+        return Err(DocFault::BadName);
+    }
+    if tree.many_attributes {
+        return Err(DocFault::AttrLimit);
+    }
+    if tree.long_text {
+        return Err(DocFault::TextLimit);
+    }
+    if tree.code_points.saturating_add(taken.code_points as u64) > MAX_TEXTS as u64 {
+        return Err(DocFault::TextLimit);
+    }
+    Ok(())
+}
+
+/// Refuses a tree that is too deep or has too many nodes.
+fn check_size(tree: Measured, taken: Taken) -> Result<(), DocFault>
+    ensures { ChecksBy ((nat_lt MAX_DEPTH (taken.level + tree.levels), cause.DepthLimit)
+        ∷ (nat_lt MAX_NODES (taken.nodes + tree.nodes), cause.NodeLimit)
+        ∷ (nat_lt MAX_IDS (taken.ids + tree.nodes), cause.IdLimit) ∷ []) result }
+{
+    if taken.level.saturating_add(tree.levels) > MAX_DEPTH {
         return Err(DocFault::DepthLimit);
     }
-    let room = MAX_NODES - live;
-    let Some(left) = room_after(tree, room) else {
+    if taken.nodes.saturating_add(tree.nodes) > MAX_NODES {
         return Err(DocFault::NodeLimit);
-    };
-    if room - left > MAX_IDS - given {
+    }
+    if taken.ids.saturating_add(tree.nodes) > MAX_IDS {
         return Err(DocFault::IdLimit);
     }
     Ok(())
 }
 
-/// Whether no node of a tree stands deeper than this level, where its root stands at 1.
-#[cycle(deep)]
-fn is_within(tree: &Tree, levels: u32) -> bool
-    ensures { IsTrue result ↔ (depth (shape tree.now) ≤ levels) }
+/// Refuses a tree by the first limit that it would break. Its time is linear in the code points of
+/// the tree.
+pub fn check(tree: &Tree, taken: Taken) -> Result<(), DocFault>
+    ensures { ChecksBy (tree_causes (taken_of taken) (shape tree.now)) result }
 {
-    if levels == 0 {
-        return false;
-    }
-    match tree {
-        Tree::Elem(_, _, children) => are_within(children.as_slice(), levels - 1),
-        Tree::Chars(_) => true,
-    }
-}
-
-#[cycle(deep)]
-fn are_within(children: &[Tree], levels: u32) -> bool
-    ensures { IsTrue result ↔ (depths (trees_of (map shape children.now)) ≤ levels) }
-{
-    for child in children {
-        if !is_within(child, levels) {
-            return false;
-        }
-    }
-    true
-}
-
-/// How much of a room for nodes a tree leaves, or nothing where it has more nodes than that.
-#[cycle(room)]
-fn room_after(tree: &Tree, room: u32) -> Option<u32>
-    ensures { MatchOption result (room < size (shape tree.now))
-        (λ left. left + size (shape tree.now) ≡ room) }
-{
-    match tree {
-        Tree::Elem(_, _, children) => room_after_all(children.as_slice(), room.checked_sub(1)?),
-        Tree::Chars(_) => room.checked_sub(1),
-    }
-}
-
-#[cycle(room)]
-fn room_after_all(children: &[Tree], room: u32) -> Option<u32>
-    ensures { MatchOption result (room < sizes (trees_of (map shape children.now)))
-        (λ left. left + sizes (trees_of (map shape children.now)) ≡ room) }
-{
-    let mut left = room;
-    for child in children {
-        left = room_after(child, left)?;
-    }
-    Some(left)
+    let measured = measure(tree);
+    check_grammar(measured, taken)?;
+    check_size(measured, taken)
 }

@@ -1,20 +1,16 @@
+//! A tree before it gets ids.
 ghost use Rattle.std.specs.Prelude.{◌≡◌, ◌-◌, ◌^◌, min, map};
 ghost use Rattle.page_model.specs.Trees.{size, sizes, trees_of};
 ghost use Rattle.dom_arena.specs.Shape.{shape};
 
+use crate::attrs::Attrs;
 use port_core::{Seq, Text};
 
-/// An attribute's name and value.
-pub type Attribute = (Text, Text);
-
-/// The attributes of an element, in the order of their names, each name once.
-pub type Attributes = Seq<Attribute>;
-
-/// A tree that has no numbers yet: an element or a text.
+/// A tree that has no ids yet: an element or a text.
 #[derive(Debug, Drop)]
 pub enum Tree {
     /// An element: its name, its attributes, its children.
-    Elem(Text, Attributes, Seq<Tree>),
+    Elem(Text, Attrs, Seq<Tree>),
     /// A text.
     Chars(Text),
 }

@@ -1,5 +1,5 @@
 -- What reading a part of a value answers.
-use Rattle.std.specs.Prelude.{◌≡◌, ℕ, List, map, Option, Some, None, Result, Ok, Err}
+use Rattle.std.specs.Prelude.{◌≡◌, List, map, Option, Some, None, Result, Ok, Err}
 use Rattle.std.specs.Str.{chars}
 use Rattle.serde_json.specs.Data.{string, Items, item}
 use Rattle.dom_arena.specs.declared.tree.Tree.{Tree}

@@ -5,8 +5,6 @@
 
 mod attributes;
 mod fault;
-#[cfg(test)]
-mod tests;
 mod trees;
 
 pub use fault::TreeFault;

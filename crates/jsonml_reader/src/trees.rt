@@ -71,7 +71,7 @@ fn attributes_from(alloc: Global, items: &[Value]) -> Result<Attrs, TreeFault>
 {
     match items.get(1) {
         Some(Value::Object(members)) => read_attributes(alloc, members),
-        _ => Ok(Seq::new(alloc)),
+        _ => Ok(Attrs::new(alloc)),
     }
 }
 

@@ -1,5 +1,5 @@
 -- The limits that a document breaks after a load or an insert.
-use Rattle.std.proofs.Common.{Bool, List, Option, Some, [], ap, arith, cond, false, inl, inr, is_none, is_some, le-ltb, length, lt-ltb, ltb-false, ltb-true, max, nat_lt, sym, unwrap_or, ℕ, ◌+◌, ◌<◌, ◌||◌, ◌∙◌, ◌∷◌, ◌≡◌, ◌≤◌}
+use Rattle.std.proofs.Common.{Bool, List, Option, Some, [], ap, arith, cond, false, inl, inr, is_none, is_some, le-ltb, length, lt-ltb, ltb-false, ltb-true, max, nat_lt, sym, unwrap_or, ℕ, ◌+◌, ◌++◌, ◌<◌, ◌||◌, ◌∙◌, ◌∷◌, ◌≡◌, ◌≤◌}
 use Rattle.std.proofs.lemmas.Bool.{cases_Bool, false≢true}
 use Rattle.std.specs.List.{list_any}
 use Rattle.page_laws.proofs.DocumentAfterInsert.{fits-document}
@@ -9,9 +9,9 @@ use Rattle.page_laws.proofs.Options.{none-or-some, some-not-none}
 use Rattle.page_laws.proofs.TreeAfterInsert.{has_node-inserted, height-grown, node_count-inserted, text_size-inserted}
 use Rattle.page_laws.proofs.WithIds.{height-with_ids, node_count-with_ids, without-with_ids}
 use Rattle.page_laws.specs.ChildLists.{IsPlace, TakesChildren}
-use Rattle.page_laws.specs.Limits.{KeepsGrammar, broken_grammar, broken_limits}
+use Rattle.page_laws.specs.Limits.{KeepsGrammar, KeepsLimits, broken_grammar, broken_limits, broken_sizes}
 use Rattle.page_model.specs.Document.{Document, document, find, height, name_at, node_count, with_ids, without_ids}
-use Rattle.page_model.specs.Edits.{child_count, document_after_insert, grammar_causes, insert_causes, level, load_causes, nothing_taken, taken_below, tree_causes}
+use Rattle.page_model.specs.Edits.{child_count, document_after_insert, grammar_causes, insert_causes, level, load_causes, nothing_taken, size_causes, taken_below, tree_causes}
 use Rattle.page_model.specs.Refusals.{Causes, first_of}
 use Rattle.page_model.specs.Trees.{Attribute, Text, Tree, depth, has_bad_name, has_long_text, has_many_attributes, has_node, is_badly_named, is_long, size, text_size}
 use Rattle.page_model.specs.declared.limits.TheConstants.{MAX_ATTRIBUTES, MAX_DEPTH, MAX_IDS, MAX_NODES, MAX_TEXTS}
@@ -64,9 +64,9 @@ grammar-limits parent index t d k g = λ j. grammar
     (node-after (λ _ attributes. list_any (λ (a : Attribute). is_long a.1) attributes) is_long parent index t d k g.texts j)
     (sym (text_size-after parent index t d k) j)
 
-insert-limits : (parent index : ℕ) (t : Tree) (d : Document) → TakesChildren parent d → height d.root ≤ MAX_DEPTH
-    → tree_causes (taken_below parent d) t ≡ broken_limits (document_after_insert parent index t d)
-insert-limits parent index t d k low = elim (none-or-some (level parent d.root)) [
+insert-sizes : (parent index : ℕ) (t : Tree) (d : Document) → TakesChildren parent d → height d.root ≤ MAX_DEPTH
+    → size_causes (taken_below parent d) t ≡ broken_sizes (document_after_insert parent index t d)
+insert-sizes parent index t d k low = elim (none-or-some (level parent d.root)) [
   | inl none ↦
       let p = named-some (find parent d.root) k.1 in
       absurd (false≢true (sym (ap is_some none) ∙ (level-found parent d.root ∙ ap is_some p.1.0)))
@@ -75,18 +75,22 @@ insert-limits parent index t d k low = elim (none-or-some (level parent d.root))
       ∙ λ j. causes (depth-limit parent index t d some.0 k some.1 low j) (sym (count-after parent index t d k) j) (d.next_id + size t)
 ]
 
+insert-limits : (parent index : ℕ) (t : Tree) (d : Document) → TakesChildren parent d → KeepsLimits d
+    → tree_causes (taken_below parent d) t ≡ broken_limits (document_after_insert parent index t d)
+insert-limits parent index t d k keeps = λ j. grammar-limits parent index t d k keeps.grammar j ++ insert-sizes parent index t d k keeps.low j
+
 skipped : (b : Bool) (r : Cause) (rs : Causes) → b ≡ false → first_of ((b, r) ∷ rs) ≡ first_of rs
 skipped b r rs h = ap (λ (x : Bool). cond x (Some r) (first_of rs)) h
 
-pub insert-refused : (parent index : ℕ) (t : Tree) (d : Document) → IsPlace parent index d → height d.root ≤ MAX_DEPTH
+pub insert-refused : (parent index : ℕ) (t : Tree) (d : Document) → IsPlace parent index d → KeepsLimits d
     → first_of (insert_causes parent index t d) ≡ first_of (broken_limits (document_after_insert parent index t d))
-insert-refused parent index t d place low =
+insert-refused parent index t d place keeps =
     let p = named-some (find parent d.root) place.0.1 in
     let limits : Causes = tree_causes (taken_below parent d) t in
     let few : Causes = (nat_lt (child_count parent d.root) index, BadIndex) ∷ limits in
     skipped (is_none (find parent d.root)) NoNode ((is_none (name_at parent d.root), NotElement) ∷ few) (ap is_none p.1.0)
     ∙ (skipped (is_none (name_at parent d.root)) NotElement few (some-not-none (name_at parent d.root) place.0.1)
-    ∙ (skipped (nat_lt (child_count parent d.root) index) BadIndex limits (le-ltb (child_count parent d.root) index place.1) ∙ ap first_of (insert-limits parent index t d place.0 low)))
+    ∙ (skipped (nat_lt (child_count parent d.root) index) BadIndex limits (le-ltb (child_count parent d.root) index place.1) ∙ ap first_of (insert-limits parent index t d place.0 keeps)))
 
 zero-more : (n : ℕ) → 0 + n ≡ n
 zero-more n = omega arith
@@ -96,9 +100,9 @@ load-grammar t =
     let same : t ≡ without_ids (with_ids 0 t) = sym (without-with_ids 0 t) in
     λ j. grammar (has_bad_name (same j)) (has_many_attributes (same j)) (has_long_text (same j)) ((zero-more (text_size t) ∙ ap text_size same) j)
 
-load-limits : (t : Tree) → load_causes t ≡ broken_limits (document t)
-load-limits t = λ j. causes
+load-sizes : (t : Tree) → size_causes nothing_taken t ≡ broken_sizes (document t)
+load-sizes t = λ j. causes
     (nat_lt MAX_DEPTH ((zero-more (depth t) ∙ sym (height-with_ids 0 t)) j)) ((zero-more (size t) ∙ sym (node_count-with_ids 0 t)) j) (zero-more (size t) j)
 
 pub load-refused : (t : Tree) → first_of (load_causes t) ≡ first_of (broken_limits (document t))
-load-refused t = ap first_of (load-limits t)
+load-refused t = λ j. first_of (load-grammar t j ++ load-sizes t j)

@@ -9,9 +9,13 @@ pub mod TreeAfterInsert
 pub mod TreeAfterRemove
 pub mod DocumentAfterInsert
 pub mod DocumentAfterRemove
+pub mod FirstOf
 pub mod BrokenLimits
+pub mod KeptLimits
 pub mod Siblings
 pub mod TreeAfterMove
 pub mod TreeAfterChange
 pub mod AttributesInOrder
 pub mod AttributesAfterChange
+pub mod MovedLimits
+pub mod ChangedLimits

@@ -89,3 +89,7 @@ or-false false b h = (refl, h)
 pub both-true : (a b : Bool) → (a && b) ≡ true → (a ≡ true) × (b ≡ true)
 both-true true b h = (refl, h)
 both-true false b h = absurd (false≢true h)
+
+pub not-none : {X : Type 0} (o : Option X) → is_none o ≡ false → (x : X) × (o ≡ Some x)
+not-none (Some x) h = (x, refl)
+not-none None h = absurd (false≢true (sym h))

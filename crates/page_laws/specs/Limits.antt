@@ -1,5 +1,5 @@
 -- The limits that a document breaks.
-use Rattle.std.specs.Prelude.{length, ℕ, [], false, nat_lt, ◌||◌, ◌∷◌, ◌≡◌, ◌≤◌}
+use Rattle.std.specs.Prelude.{length, ℕ, [], false, nat_lt, ◌++◌, ◌||◌, ◌∷◌, ◌≡◌, ◌≤◌}
 use Rattle.page_model.specs.Document.{element, text, Document, Node, height, node_count, without_ids}
 use Rattle.page_model.specs.Refusals.{Causes}
 use Rattle.page_model.specs.Trees.{value_size, has_bad_name, has_long_text, has_many_attributes, text_size}
@@ -15,12 +15,16 @@ broken_grammar d =
     ∷ []
 
 -- a node stands too deep, there are too many nodes, or too many ids were given
-abbrev pub broken_limits : Document → Causes
-broken_limits d =
+abbrev pub broken_sizes : Document → Causes
+broken_sizes d =
     (nat_lt MAX_DEPTH (height d.root), DepthLimit)
     ∷ (nat_lt MAX_NODES (node_count d.root), NodeLimit)
     ∷ (nat_lt MAX_IDS d.next_id, IdLimit)
     ∷ []
+
+-- the limits that a document breaks, in the order in which they are asked
+abbrev pub broken_limits : Document → Causes
+broken_limits d = broken_grammar d ++ broken_sizes d
 
 -- each name is in the grammar of names, no element has too many attributes, and no text is too long
 pub record KeepsGrammar (root : Node) : Type 0 where

@@ -1,5 +1,5 @@
 -- The document after an edit, and why an edit is refused.
-use Rattle.std.specs.Prelude.{Bool, List, None, Option, Some, [], false, if◌then◌else◌, is_none, is_some, length, nat_lt, not, option_map, suc, unwrap_or, zero, ℕ, ◌+◌, ◌==◌, ◌||◌, ◌∷◌}
+use Rattle.std.specs.Prelude.{Bool, List, None, Option, Some, [], false, if◌then◌else◌, is_none, is_some, length, nat_lt, not, option_map, suc, unwrap_or, zero, ℕ, ◌+◌, ◌==◌, ◌++◌, ◌||◌, ◌∷◌}
 use Rattle.page_model.specs.Attributes.{with_attribute, without_attribute}
 use Rattle.page_model.specs.Document.{Document, Node, Nodes, attributes_at, child_ids, ids, element, find, height, id_of, is_among, name_at, no_nodes, node, node_count, or_else, text, with_ids, without_ids}
 use Rattle.page_model.specs.Names.{is_name}
@@ -146,6 +146,7 @@ grammar_causes taken t =
     ∷ (has_long_text t || nat_lt MAX_TEXTS (taken.code_points + text_size t), TextLimit)
     ∷ []
 
+-- what no new tree may be: too deep, or more nodes or ids than are left
 abbrev pub size_causes : Taken → Tree → Causes
 size_causes taken t =
     (nat_lt MAX_DEPTH (taken.level + depth t), DepthLimit)
@@ -153,10 +154,8 @@ size_causes taken t =
     ∷ (nat_lt MAX_IDS (taken.ids + size t), IdLimit)
     ∷ []
 
--- `grammar_causes` come before these once documents are kept with names, attributes and texts; until then requests with
--- such trees are refused as not built
 abbrev pub tree_causes : Taken → Tree → Causes
-tree_causes taken t = size_causes taken t
+tree_causes taken t = grammar_causes taken t ++ size_causes taken t
 
 -- a load replaces what was loaded
 abbrev pub load_causes : Tree → Causes

@@ -4,17 +4,27 @@ use Rattle.std.specs.Prelude.{ℕ, List, [], ◌∷◌, Bool, if◌then◌else�
 use Rattle.std.specs.Str.{chars}
 use Rattle.serde_json.specs.Data.{Data, string, array, object, Items, no_items, item, Members, no_members, member}
 use Rattle.serde_json.specs.Find.{as_str, as_object}
+use Rattle.page_model.specs.Attributes.{with_attribute}
 use Rattle.page_model.specs.Trees.{Text, Attribute, Tree, elem, characters, Trees, no_trees, tree, is_elem}
 
 -- the attribute that a member is: its value is a string
 abbrev pub attribute_of : List ℕ → Data → Option Attribute
 attribute_of name d = option_map (λ value. (chars name, chars value)) (as_str d)
 
+-- the attributes after a member was set among them
+abbrev pub with_member : List Attribute → List ℕ → Data → Option (List Attribute)
+with_member attributes name d =
+    option_map (λ (a : Attribute). with_attribute a.0 a.1 attributes) (attribute_of name d)
+
+-- the attributes after an object's members were set among them, one after another
+abbrev pub with_members : List Attribute → Members → Option (List Attribute)
+with_members attributes no_members = Some attributes
+with_members attributes (member name d ms) =
+    option_and_then (λ more. with_members more ms) (with_member attributes name d)
+
 -- the attributes that an object's members are
 abbrev pub attributes_of : Members → Option (List Attribute)
-attributes_of no_members = Some []
-attributes_of (member name d ms) =
-    option_and_then (λ a. option_map (λ rest. a ∷ rest) (attributes_of ms)) (attribute_of name d)
+attributes_of ms = with_members [] ms
 
 abbrev pub is_object : Data → Bool
 is_object d = is_some (as_object d)

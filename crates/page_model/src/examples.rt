@@ -1,9 +1,10 @@
 //! The numbers, names and order of causes, as replies have them, and trees in JsonML.
-ghost use Rattle.std.specs.Prelude.{◌≡◌, [], ◌∷◌, Some, None, true, false, map, codes};
+ghost use Rattle.std.specs.Prelude.{◌≡◌, ℕ, List, [], ◌∷◌, Some, None, true, false, map, codes};
 ghost use Rattle.std.specs.Str.{chars};
 ghost use Rattle.serde_json.specs.Data.{string, number, unsigned, array, object, item, no_items, member, no_members};
 ghost use Rattle.page_model.specs.Refusals.{cause_number, cause_name, first_of, IsFirstCause, IsRefusedBy};
 ghost use Rattle.page_model.specs.Trees.{elem, characters, no_trees, tree};
+ghost use Rattle.page_model.specs.Attributes.{with_attribute};
 ghost use Rattle.page_model.specs.Jsonml.{tree_of};
 ghost use Rattle.page_model.specs.declared.refusal.Refusal.TheVariants as refusal;
 ghost use Rattle.page_model.specs.declared.cause.Cause.TheVariants.{BadJson, BadRequest, LineTooLong, NotLoaded, NoNode, NotElement, NotText, IsRoot, Cycle, BadIndex, BadName, NodeLimit, DepthLimit, TextLimit, IdLimit, ViewportRange, SheetLimit, NoSheet, AttrLimit, BadSelector, NotBuilt};
@@ -45,5 +46,10 @@ pub fn examples_of_jsonml()
         (item (string (codes "t")) (item (object no_members) no_items)))) ≡ None }
     ensures attribute_is_a_string { tree_of (array (item (string (codes "p"))
         (item (object (member (codes "a") (number (unsigned 1)) no_members)) no_items))) ≡ None }
+    ensures one_after_another { (a b x y : List ℕ)
+        → tree_of (array (item (string (codes "p"))
+        (item (object (member a (string x) (member b (string y) no_members))) no_items)))
+        ≡ Some (elem (chars (codes "p"))
+        (with_attribute (chars b) (chars y) ((chars a, chars x) ∷ [])) no_trees) }
     ensures no_name { tree_of (array no_items) ≡ None }
 {}

@@ -2,7 +2,7 @@
 ghost use Rattle.std.specs.Prelude.{◌≡◌, ◌∷◌, ◌++◌, [], Some, None, true, codes, replicate, nat_lt};
 ghost use Rattle.page_model.specs.Trees.{Tree, elem, characters, no_trees, tree, text_size};
 ghost use Rattle.page_model.specs.Document.{Document, Node, element, text, no_nodes, node, without_ids};
-ghost use Rattle.page_model.specs.Edits.{tree_after_insert, tree_after_remove, tree_after_move, tree_after_set_attr, tree_after_drop_attr, tree_after_set_text, document_after_insert, document_after_remove, Taken, taken_below, grammar_causes, size_causes, load_causes, insert_causes, remove_causes, move_causes, set_attr_causes, drop_attr_causes, set_text_causes, is_over_text_limit};
+ghost use Rattle.page_model.specs.Edits.{tree_after_insert, tree_after_remove, tree_after_move, tree_after_set_attr, tree_after_drop_attr, tree_after_set_text, document_after_insert, document_after_remove, Taken, taken_below, tree_causes, load_causes, insert_causes, remove_causes, move_causes, set_attr_causes, drop_attr_causes, set_text_causes, is_over_text_limit};
 ghost use Rattle.page_model.specs.Refusals.{first_of};
 ghost use Rattle.page_model.specs.declared.cause.Cause.TheVariants.{NoNode, NotElement, NotText, IsRoot, Cycle, BadIndex, BadName, NodeLimit, DepthLimit, TextLimit, IdLimit, AttrLimit};
 
@@ -53,29 +53,26 @@ pub fn examples_of_trees_after_edits()
 
 /// A new tree may reach each limit and not go past it; of several causes the first in the order is told.
 pub fn examples_of_tree_causes()
-    ensures at_each_limit { first_of (grammar_causes
-        (record { level = 95; nodes = 19999; ids = 99999; code_points = 16777215 })
-        (elem (codes "a") ((codes "k", codes "v") ∷ []) no_trees)
-        ++ size_causes
+    ensures at_each_limit { first_of (tree_causes
         (record { level = 95; nodes = 19999; ids = 99999; code_points = 16777215 })
         (elem (codes "a") ((codes "k", codes "v") ∷ []) no_trees)) ≡ None }
-    ensures id_limit { first_of (size_causes
+    ensures id_limit { first_of (tree_causes
         (record { level = 95; nodes = 19999; ids = 100000; code_points = 0 })
         (elem (codes "a") ((codes "k", codes "v") ∷ []) no_trees)) ≡ Some IdLimit }
-    ensures node_limit { first_of (size_causes
+    ensures node_limit { first_of (tree_causes
         (record { level = 95; nodes = 20000; ids = 100000; code_points = 0 })
         (elem (codes "a") ((codes "k", codes "v") ∷ []) no_trees)) ≡ Some NodeLimit }
-    ensures depth_limit { first_of (size_causes
+    ensures depth_limit { first_of (tree_causes
         (record { level = 96; nodes = 20000; ids = 100000; code_points = 0 })
         (elem (codes "a") ((codes "k", codes "v") ∷ []) no_trees)) ≡ Some DepthLimit }
-    ensures text_limit { first_of (grammar_causes
-        (record { level = 0; nodes = 0; ids = 0; code_points = 16777216 })
+    ensures text_limit { first_of (tree_causes
+        (record { level = 96; nodes = 20000; ids = 100000; code_points = 16777216 })
         (elem (codes "a") ((codes "k", codes "v") ∷ []) no_trees)) ≡ Some TextLimit }
-    ensures attr_limit { first_of (grammar_causes
-        (record { level = 0; nodes = 0; ids = 0; code_points = 16777216 })
+    ensures attr_limit { first_of (tree_causes
+        (record { level = 96; nodes = 0; ids = 0; code_points = 16777216 })
         (elem (codes "a") (replicate 65 (codes "k", codes "v")) no_trees)) ≡ Some AttrLimit }
-    ensures bad_name { first_of (grammar_causes
-        (record { level = 0; nodes = 0; ids = 0; code_points = 16777216 })
+    ensures bad_name { first_of (tree_causes
+        (record { level = 96; nodes = 0; ids = 0; code_points = 16777216 })
         (elem (codes "<") (replicate 65 (codes "k", codes "v")) no_trees)) ≡ Some BadName }
     ensures load { first_of (load_causes (elem (codes "a") [] no_trees)) ≡ None }
     ensures taken { taken_below 2 (record {
@@ -99,6 +96,7 @@ pub fn examples_of_edit_causes()
         in (first_of (insert_causes 9 9 bad d) ≡ Some NoNode)
         × (first_of (insert_causes 1 9 bad d) ≡ Some NotElement)
         × (first_of (insert_causes 0 3 bad d) ≡ Some BadIndex)
+        × (first_of (insert_causes 0 2 bad d) ≡ Some BadName)
         × (first_of (insert_causes 0 2 (characters []) d) ≡ None) }
     ensures remove { let d : Document = record {
       root = element 0 (codes "a") []

@@ -10,7 +10,8 @@ use Rattle.port_core.proofs.LinesLemmas.{IsUnbroken-append}
 use Rattle.port_core.proofs.StreamLemmas.{TakesCount-none, TakesCount-takes, TakesCount-joins, Grew-joins}
 
 -- a draft that takes up a piece
-pub IsDraftOf-absorbs : (draft draft' piece front : List ℕ) → IsDraftOf draft front → Absorbs draft piece draft' → IsDraftOf draft' (front ++ piece)
+pub IsDraftOf-absorbs : (draft draft' piece front : List ℕ) → IsDraftOf draft front
+    → Absorbs draft piece draft' → IsDraftOf draft' (front ++ piece)
 IsDraftOf-absorbs draft draft' piece front (inl e) (inl f) = inl (f ∙ ap (λ d. d ++ piece) e)
 IsDraftOf-absorbs draft draft' piece front (inl e) (inr f) = inr (f.0, omega (arith, f.1, ap length e, length-append front piece))
 IsDraftOf-absorbs draft draft' piece front (inr e) (inl f) =
@@ -32,7 +33,8 @@ Advances-none w s small = record {
   effort_falls = omega arith;
 }
 
-pub Advances-joins : (u v w : Intake) (r s t : SourceState) → Advances u v r s → Advances v w s t → Advances u w r t
+pub Advances-joins : (u v w : Intake) (r s t : SourceState) → Advances u v r s → Advances v w s t
+    → Advances u w r t
 Advances-joins u v w r s t m n =
     let sums : (v.taken - u.taken) + (w.taken - v.taken) ≡ w.taken - u.taken = omega (arith, m.forward, n.forward) in
     record {
@@ -44,7 +46,8 @@ Advances-joins u v w r s t m n =
     }
 
 -- pending bytes were taken out, and none of the source
-pub Advances-cut : (v w : Intake) (s : SourceState) → v.taken ≤ MAX_TAKEN → w.taken ≡ v.taken → length w.pending ≤ length v.pending → Advances v w s s
+pub Advances-cut : (v w : Intake) (s : SourceState) → v.taken ≤ MAX_TAKEN → w.taken ≡ v.taken
+    → length w.pending ≤ length v.pending → Advances v w s s
 Advances-cut v w s small e less = record {
   forward = omega arith;
   bounded = omega arith;
@@ -64,7 +67,8 @@ Advances-fills v w s t f =
       effort_falls = omega (arith, f.count, f.bounded);
     }
 
-Advances-rests : (v w : Intake) (s t : SourceState) → v.taken ≤ MAX_TAKEN → v.pending ≡ [] → Rests v w s t → Advances v w s t
+Advances-rests : (v w : Intake) (s t : SourceState) → v.taken ≤ MAX_TAKEN → v.pending ≡ []
+    → Rests v w s t → Advances v w s t
 Advances-rests v w s t small e r = record {
   forward = omega (arith, r.count);
   bounded = omega (arith, r.count);
@@ -74,15 +78,19 @@ Advances-rests v w s t small e r = record {
 }
 
 -- before anything was read
-bytes_at_start : (pending draft : List ℕ) (a : Option (List ℕ)) → draft ≡ [] → FromTo (ahead pending a) (ahead pending a) (TakesUp draft)
+bytes_at_start : (pending draft : List ℕ) (a : Option (List ℕ)) → draft ≡ []
+    → FromTo (ahead pending a) (ahead pending a) (TakesUp draft)
 bytes_at_start pending draft None e = tt
 bytes_at_start pending draft (Some x) e = record { front = []; unbroken = tt; same = refl; kept = inl e }
 
-pub Collecting-none : (w : Intake) (draft : List ℕ) (s : SourceState) → draft ≡ [] → w.taken ≤ MAX_TAKEN → Collecting w w draft s s
+pub Collecting-none : (w : Intake) (draft : List ℕ) (s : SourceState) → draft ≡ []
+    → w.taken ≤ MAX_TAKEN → Collecting w w draft s s
 Collecting-none w draft s e small = record { bytes = bytes_at_start w.pending draft s.left e; moves = Advances-none w s small }
 
-bytes_after_part : (u v w : Intake) (draft draft' : List ℕ) (a b : Option (List ℕ)) → CutsPart v w draft draft'
-    → FromTo (ahead u.pending a) (ahead v.pending b) (TakesUp draft) → FromTo (ahead u.pending a) (ahead w.pending b) (TakesUp draft')
+bytes_after_part : (u v w : Intake) (draft draft' : List ℕ) (a b : Option (List ℕ))
+    → CutsPart v w draft draft'
+    → FromTo (ahead u.pending a) (ahead v.pending b) (TakesUp draft)
+    → FromTo (ahead u.pending a) (ahead w.pending b) (TakesUp draft')
 bytes_after_part u v w draft draft' None None c r = tt
 bytes_after_part u v w draft draft' None (Some y) c r = absurd r
 bytes_after_part u v w draft draft' (Some x) None c r = absurd r
@@ -94,15 +102,18 @@ bytes_after_part u v w draft draft' (Some x) (Some y) c r = record {
 }
 
 -- all that was pending belongs to the line
-pub Collecting-part : (u v w : Intake) (draft draft' : List ℕ) (r s : SourceState) → CutsPart v w draft draft'
+pub Collecting-part : (u v w : Intake) (draft draft' : List ℕ) (r s : SourceState)
+    → CutsPart v w draft draft'
     → Collecting u v draft r s → Collecting u w draft' r s
 Collecting-part u v w draft draft' r s c so = record {
   bytes = bytes_after_part u v w draft draft' r.left s.left c so.bytes;
   moves = Advances-joins u v w r s s so.moves (Advances-cut v w s so.moves.bounded c.count (omega (arith, ap length c.empty)));
 }
 
-bytes_after_more : (u v w : Intake) (draft : List ℕ) (a b d : Option (List ℕ)) → v.pending ≡ [] → Takes b d w.pending
-    → FromTo (ahead u.pending a) (ahead v.pending b) (TakesUp draft) → FromTo (ahead u.pending a) (ahead w.pending d) (TakesUp draft)
+bytes_after_more : (u v w : Intake) (draft : List ℕ) (a b d : Option (List ℕ)) → v.pending ≡ []
+    → Takes b d w.pending
+    → FromTo (ahead u.pending a) (ahead v.pending b) (TakesUp draft)
+    → FromTo (ahead u.pending a) (ahead w.pending d) (TakesUp draft)
 bytes_after_more u v w draft None None None e t r = tt
 bytes_after_more u v w draft None None (Some z) e t r = t
 bytes_after_more u v w draft None (Some y) d e t r = absurd r
@@ -116,7 +127,8 @@ bytes_after_more u v w draft (Some x) (Some y) (Some z) e t r = record {
 }
 
 -- more was pulled
-pub Collecting-more : (u v w : Intake) (draft : List ℕ) (r s t : SourceState) → v.pending ≡ [] → Fills v w s t
+pub Collecting-more : (u v w : Intake) (draft : List ℕ) (r s t : SourceState) → v.pending ≡ []
+    → Fills v w s t
     → Collecting u v draft r s → Collecting u w draft r t
 Collecting-more u v w draft r s t e f so = record {
   bytes = bytes_after_more u v w draft r.left s.left t.left e f.takes so.bytes;
@@ -124,7 +136,8 @@ Collecting-more u v w draft r s t e f so = record {
 }
 
 -- nothing was pulled
-pub Collecting-rests : (u v w : Intake) (draft : List ℕ) (r s t : SourceState) → v.pending ≡ [] → Rests v w s t
+pub Collecting-rests : (u v w : Intake) (draft : List ℕ) (r s t : SourceState) → v.pending ≡ []
+    → Rests v w s t
     → Collecting u v draft r s → Collecting u w draft r t
 Collecting-rests u v w draft r s t e rests so = record {
   bytes = rw rests.left_same (subst (λ (p : List ℕ). FromTo (ahead u.pending r.left) (ahead p s.left) (TakesUp draft)) (e ∙ sym rests.empty) so.bytes);
@@ -132,8 +145,10 @@ Collecting-rests u v w draft r s t e rests so = record {
 }
 
 -- the newline was found
-pub bytes_after_line : (u v w : Intake) (draft draft' : List ℕ) (a b : Option (List ℕ)) → CutsLine v w draft draft'
-    → FromTo (ahead u.pending a) (ahead v.pending b) (TakesUp draft) → FromTo (ahead u.pending a) (ahead w.pending b) (TakesUpLine draft')
+pub bytes_after_line : (u v w : Intake) (draft draft' : List ℕ) (a b : Option (List ℕ))
+    → CutsLine v w draft draft'
+    → FromTo (ahead u.pending a) (ahead v.pending b) (TakesUp draft)
+    → FromTo (ahead u.pending a) (ahead w.pending b) (TakesUpLine draft')
 bytes_after_line u v w draft draft' None None c r = tt
 bytes_after_line u v w draft draft' None (Some y) c r = absurd r
 bytes_after_line u v w draft draft' (Some x) None c r = absurd r
@@ -147,11 +162,13 @@ bytes_after_line u v w draft draft' (Some x) (Some y) c r =
     }
 
 -- a cut at a newline takes at least that out
-pub CutsLine-shorter : (v w : Intake) (draft draft' : List ℕ) → CutsLine v w draft draft' → length w.pending < length v.pending
+pub CutsLine-shorter : (v w : Intake) (draft draft' : List ℕ) → CutsLine v w draft draft'
+    → length w.pending < length v.pending
 CutsLine-shorter v w draft draft' c = omega (arith, ap length c.parted, length-append c.piece (newline ∷ w.pending))
 
 -- the line is collected
-pub CollectsLine-cut : (u v w : Intake) (draft draft' : List ℕ) (r s : SourceState) → CutsLine v w draft draft'
+pub CollectsLine-cut : (u v w : Intake) (draft draft' : List ℕ) (r s : SourceState)
+    → CutsLine v w draft draft'
     → s.faults ≡ r.faults → Collecting u v draft r s → CollectsLine u w draft' r s
 CollectsLine-cut u v w draft draft' r s c same so =
     let shorter : length w.pending < length v.pending = CutsLine-shorter v w draft draft' c in
@@ -163,7 +180,8 @@ CollectsLine-cut u v w draft draft' r s c same so =
     }
 
 -- the line ends where nothing more was pulled
-pub Halts-rests : (u v w x : Intake) (draft draft' : List ℕ) (r s t : SourceState) → CutsPart v w draft draft' → Rests w x s t
+pub Halts-rests : (u v w x : Intake) (draft draft' : List ℕ) (r s t : SourceState)
+    → CutsPart v w draft draft' → Rests w x s t
     → Collecting u v draft r s → Halts u x draft' r t
 Halts-rests u v w x draft draft' r s t c rests so = record {
   so_far = Collecting-rests u w x draft' r s t c.empty rests (Collecting-part u v w draft draft' r s c so);

@@ -6,7 +6,8 @@ use Rattle.memchr.specs.Find.{NoneBefore, Nowhere, Passes, is_byte}
 use Rattle.stream_model.specs.Lines.{newline, lines, onto, IsUnbroken}
 
 -- a front in which no place has a newline is unbroken
-pub IsUnbroken-take : (xs : List ℕ) (k : ℕ) → ((j : ℕ) → j < k → eqb (get_or xs j 0) newline ≡ true → ⊥) → IsUnbroken (take k xs)
+pub IsUnbroken-take : (xs : List ℕ) (k : ℕ)
+    → ((j : ℕ) → j < k → eqb (get_or xs j 0) newline ≡ true → ⊥) → IsUnbroken (take k xs)
 IsUnbroken-take xs zero none = tt
 IsUnbroken-take [] (suc k) none = tt
 IsUnbroken-take (x ∷ xs) (suc k) none =
@@ -17,7 +18,8 @@ IsUnbroken-append [] ys u v = v
 IsUnbroken-append (x ∷ xs) ys u v = (u.0, IsUnbroken-append xs ys u.1 v)
 
 -- an unbroken line before a newline is the first line
-pub lines-newline : (line rest : List ℕ) → IsUnbroken line → lines (line ++ newline ∷ rest) ≡ line ∷ lines rest
+pub lines-newline : (line rest : List ℕ) → IsUnbroken line
+    → lines (line ++ newline ∷ rest) ≡ line ∷ lines rest
 lines-newline [] rest u = refl
 lines-newline (b ∷ bytes) rest u = rw u.0 (ap (onto b) (lines-newline bytes rest u.1))
 
@@ -28,7 +30,9 @@ lines-last (b ∷ []) u some = rw u.0 refl
 lines-last (b ∷ c ∷ bytes) u some = rw u.0 (ap (onto b) (lines-last (c ∷ bytes) u.1 (omega arith)))
 
 -- the first newline parts an unbroken piece from the rest
-pub newline_parts : (bytes : List ℕ) (at : ℕ) → NoneBefore (Passes (is_byte newline) bytes) 0 (length bytes) at × Passes (is_byte newline) bytes at
+pub newline_parts : (bytes : List ℕ) (at : ℕ)
+    → NoneBefore (Passes (is_byte newline) bytes) 0 (length bytes) at
+    × Passes (is_byte newline) bytes at
     → IsUnbroken (take at bytes) × (bytes ≡ take at bytes ++ newline ∷ drop (at + 1) bytes)
 newline_parts bytes at found =
     let within : at < length bytes = found.0.high in
@@ -37,6 +41,7 @@ newline_parts bytes at found =
     (IsUnbroken-take bytes at (λ j h. found.0.before j (omega arith) h), sym (take-append-drop at bytes) ∙ ap (λ r. take at bytes ++ r) rest)
 
 -- bytes without a newline are unbroken
-pub IsUnbroken-nowhere : (bytes : List ℕ) → Nowhere (Passes (is_byte newline) bytes) 0 (length bytes) → IsUnbroken bytes
+pub IsUnbroken-nowhere : (bytes : List ℕ) → Nowhere (Passes (is_byte newline) bytes) 0 (length bytes)
+    → IsUnbroken bytes
 IsUnbroken-nowhere bytes none =
     subst (λ (xs : List ℕ). IsUnbroken xs) (take_all (length bytes) bytes (omega arith)) (IsUnbroken-take bytes (length bytes) (λ j h. none j (omega arith) h))

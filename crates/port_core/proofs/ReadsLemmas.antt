@@ -18,7 +18,8 @@ whole_front draft front (inl e) short = sym e
 whole_front draft front (inr e) short = absurd (omega (arith, e.0))
 
 -- a draft that is longer is one of a line that is too long
-long_front : (draft front : List ℕ) → IsDraftOf draft front → MAX_LINE < length draft → MAX_LINE < length front
+long_front : (draft front : List ℕ) → IsDraftOf draft front → MAX_LINE < length draft
+    → MAX_LINE < length front
 long_front draft front (inl e) long = omega (arith, ap length e)
 long_front draft front (inr e) long = omega (arith, e.0, e.1)
 
@@ -27,14 +28,16 @@ some_front draft (b ∷ front) d some = omega arith
 some_front draft [] (inl e) some = absurd (some e)
 some_front draft [] (inr e) some = absurd (omega (arith, e.0, e.1))
 
-newline_first : (front all rest : List ℕ) → IsUnbroken front → all ≡ front ++ newline ∷ rest → IsFirstLine front None all rest
+newline_first : (front all rest : List ℕ) → IsUnbroken front → all ≡ front ++ newline ∷ rest
+    → IsFirstLine front None all rest
 newline_first front all rest u e = record {
   first = ap lines e ∙ lines-newline front rest u;
   unbroken = u;
   ends = e;
 }
 
-last_first : (front all rest : List ℕ) → IsUnbroken front → 0 < length front → all ≡ front ++ rest → rest ≡ [] → IsFirstLine front (Some End) all rest
+last_first : (front all rest : List ℕ) → IsUnbroken front → 0 < length front → all ≡ front ++ rest
+    → rest ≡ [] → IsFirstLine front (Some End) all rest
 last_first front all rest u some e none =
     let same : all ≡ front = e ∙ (ap (λ r. front ++ r) none ∙ append-nil front) in
     record {
@@ -43,7 +46,8 @@ last_first front all rest u some e none =
       ends = (refl, some, same, none);
     }
 
-line_given : (answer : Line) (draft draft' all rest : List ℕ) → Settles answer draft draft' → TakesUpLine draft all rest → Gives answer draft' None all rest
+line_given : (answer : Line) (draft draft' all rest : List ℕ) → Settles answer draft draft'
+    → TakesUpLine draft all rest → Gives answer draft' None all rest
 line_given Whole draft draft' all rest s t =
     let same : t.front ≡ draft' = whole_front draft t.front t.kept s.1 ∙ sym s.0 in
     (subst (λ (line : List ℕ). IsFirstLine line None all rest) same (newline_first t.front all rest t.unbroken t.same), omega (arith, s.1, ap length s.0))
@@ -53,7 +57,8 @@ line_given End draft draft' all rest s t = absurd s
 line_given Failed draft draft' all rest s t = absurd s
 line_given Spent draft draft' all rest s t = absurd s
 
-last_given : (answer : Line) (draft draft' all rest : List ℕ) → Settles answer draft draft' → (draft ≡ [] → ⊥) → rest ≡ [] → TakesUp draft all rest → Gives answer draft' (Some End) all rest
+last_given : (answer : Line) (draft draft' all rest : List ℕ) → Settles answer draft draft'
+    → (draft ≡ [] → ⊥) → rest ≡ [] → TakesUp draft all rest → Gives answer draft' (Some End) all rest
 last_given Whole draft draft' all rest s some none t =
     let same : t.front ≡ draft' = whole_front draft t.front t.kept s.1 ∙ sym s.0 in
     let first = last_first t.front all rest t.unbroken (some_front draft t.front t.kept some) t.same none in
@@ -65,8 +70,10 @@ last_given End draft draft' all rest s some none t = absurd s
 last_given Failed draft draft' all rest s some none t = absurd s
 last_given Spent draft draft' all rest s some none t = absurd s
 
-last_bytes : (answer : Line) (u w : Intake) (draft draft' : List ℕ) (a b : Option (List ℕ)) → w.pending ≡ [] → NothingLeft b → (draft ≡ [] → ⊥) → Settles answer draft draft'
-    → FromTo (ahead u.pending a) (ahead w.pending b) (TakesUp draft) → FromTo (ahead u.pending a) (ahead w.pending b) (Gives answer draft' (Some End))
+last_bytes : (answer : Line) (u w : Intake) (draft draft' : List ℕ) (a b : Option (List ℕ))
+    → w.pending ≡ [] → NothingLeft b → (draft ≡ [] → ⊥) → Settles answer draft draft'
+    → FromTo (ahead u.pending a) (ahead w.pending b) (TakesUp draft)
+    → FromTo (ahead u.pending a) (ahead w.pending b) (Gives answer draft' (Some End))
 last_bytes answer u w draft draft' None None e n some s r = tt
 last_bytes answer u w draft draft' None (Some y) e n some s r = absurd r
 last_bytes answer u w draft draft' (Some x) None e n some s r = absurd r
@@ -78,8 +85,10 @@ abbrev reader : Intake → List ℕ → Option Line → Reader
 reader w line stopped = record { pending = w.pending; taken = w.taken; line = line; stopped = stopped }
 
 -- a line with its newline was read
-pub Reads-line : (answer : Line) (u w : Intake) (draft draft' line : List ℕ) (r t : SourceState) (stopped : Option Line) → stopped ≡ None
-    → CollectsLine u w draft r t → Settles answer draft draft' → Reads answer (reader u line stopped) (reader w draft' stopped) r t
+pub Reads-line : (answer : Line) (u w : Intake) (draft draft' line : List ℕ)
+    (r t : SourceState) (stopped : Option Line) → stopped ≡ None
+    → CollectsLine u w draft r t → Settles answer draft draft'
+    → Reads answer (reader u line stopped) (reader w draft' stopped) r t
 Reads-line Whole u w draft draft' line r t stopped e c s = rw e record {
   lines = FromTo-weaker (ahead u.pending r.left) (ahead w.pending t.left) (TakesUpLine draft) (Gives Whole draft' None) (λ x y p. line_given Whole draft draft' x y s p) c.bytes;
   told = c.moves.told;
@@ -109,8 +118,10 @@ Reads-line Failed u w draft draft' line r t stopped e c s = absurd s
 Reads-line Spent u w draft draft' line r t stopped e c s = absurd s
 
 -- the last line was read, which has no newline
-pub Reads-last : (answer : Line) (u w : Intake) (draft draft' line : List ℕ) (r t : SourceState) (stopped : Option Line) → stopped ≡ None → (draft ≡ [] → ⊥)
-    → CollectsLast u w draft r t → Settles answer draft draft' → Reads answer (reader u line stopped) (reader w draft' (Some End)) r t
+pub Reads-last : (answer : Line) (u w : Intake) (draft draft' line : List ℕ)
+    (r t : SourceState) (stopped : Option Line) → stopped ≡ None → (draft ≡ [] → ⊥)
+    → CollectsLast u w draft r t → Settles answer draft draft'
+    → Reads answer (reader u line stopped) (reader w draft' (Some End)) r t
 Reads-last Whole u w draft draft' line r t stopped e some c s = rw e record {
   lines = last_bytes Whole u w draft draft' r.left t.left c.halts.empty c.nothing some s c.halts.so_far.bytes;
   told = c.halts.so_far.moves.told;

@@ -7,8 +7,8 @@ use Rattle.port_core.specs.declared.ports.Pull.TheVariants as pull
 use Rattle.port_core.specs.declared.ports.Push.{Push}
 use Rattle.port_core.specs.declared.ports.Push.TheVariants as push
 
--- a source in memory: the bytes left, how many were taken, the most that a pull gives, the place at which it fails if
--- there is one, and how often it failed
+-- a source in memory: the bytes left, how many were taken, the most that a pull gives, the place
+-- at which it fails if there is one, and how often it failed
 pub record Supply : Type 0 where
   pub left : List ℕ
   pub taken : ℕ
@@ -30,15 +30,16 @@ abbrev pub count_before : Option ℕ → ℕ → ℕ → ℕ
 count_before None taken count = count
 count_before (Some at) taken count = min count (at - taken)
 
--- the invariant of a source: no more was taken than there are bytes, and than come before the place at which it fails
+-- the invariant of a source: no more was taken than there are bytes, and than come before the
+-- place at which it fails
 pub record IsSupply (bytes : List ℕ) (taken piece : ℕ) (fail_at : Option ℕ) (faults : ℕ) : Type 0 where
   pub some : 0 < piece
   pub within : taken ≤ length bytes
   pub ahead : ForSome fail_at (λ at. taken ≤ at)
   pub counted : faults ≤ last_count
 
--- how many bytes a pull gives: the least of the piece, the buffer's room, what is left, and what comes before the place
--- at which the source fails
+-- how many bytes a pull gives: the least of the piece, the buffer's room, what is left, and what
+-- comes before the place at which the source fails
 abbrev pub portion : Supply → ℕ → ℕ
 portion s room = count_before s.fail_at s.taken (min (min s.piece room) (length s.left))
 
@@ -78,4 +79,7 @@ push_answer s bytes = if nat_le (length s.bytes + length bytes) s.room then push
 abbrev pub after_push : Store → List ℕ → Push → Store
 after_push s bytes push.Done = record s { bytes = s.bytes ++ bytes }
 after_push s bytes push.Failed =
-    record s { bytes = s.bytes ++ take (s.room - length s.bytes) bytes; faults = min (s.faults + 1) last_count }
+    record s {
+      bytes = s.bytes ++ take (s.room - length s.bytes) bytes;
+      faults = min (s.faults + 1) last_count;
+    }

@@ -19,4 +19,5 @@ Pulls pull.Failed buf old new =
 -- what a push of bytes does to a sink
 abbrev pub Pushes : Push → List ℕ → SinkState → SinkState → Type 0
 Pushes push.Done bytes old new = Appends old.held new.held bytes × (new.faults ≡ old.faults)
-Pushes push.Failed bytes old new = AppendsPart old.held new.held bytes × CountsFault old.faults new.faults
+Pushes push.Failed bytes old new =
+    AppendsPart old.held new.held bytes × CountsFault old.faults new.faults

@@ -6,8 +6,8 @@ use Rattle.stream_model.specs.declared.limits.TheConstants.{MAX_LINE, MAX_TAKEN}
 use Rattle.port_core.specs.declared.reader.Line.{Line}
 use Rattle.port_core.specs.declared.reader.Line.TheVariants.{Whole, TooLong, End, Failed, Spent}
 
--- a line reader: the bytes that it took and has not given yet, how many it took in its life, the line that it gave, and
--- the answer that it gives from now on if it has stopped
+-- a line reader: the bytes that it took and has not given yet, how many it took in its life, the
+-- line that it gave, and the answer that it gives from now on if it has stopped
 pub record Reader : Type 0 where
   pub pending : List ℕ
   pub taken : ℕ
@@ -33,10 +33,12 @@ pub record IsFirstLine (line : List ℕ) (stopped : Option Line) (all rest : Lis
   pub unbroken : IsUnbroken line
   pub ends : EndsLine line stopped all rest
 
--- what a call gives, by its answer: the line kept, whether the reader stopped, the bytes ahead before and after
+-- what a call gives, by its answer: the line kept, whether the reader stopped, the bytes ahead
+-- before and after
 abbrev pub Gives : Line → List ℕ → Option Line → List ℕ → List ℕ → Type 0
 Gives Whole kept stopped all rest = IsFirstLine kept stopped all rest × (length kept ≤ MAX_LINE)
-Gives TooLong kept stopped all rest = (line : List ℕ) × IsFirstLine line stopped all rest × (MAX_LINE < length line)
+Gives TooLong kept stopped all rest =
+    (line : List ℕ) × IsFirstLine line stopped all rest × (MAX_LINE < length line)
 Gives End kept stopped all rest = (all ≡ []) × (rest ≡ [])
 Gives Failed kept stopped all rest = (part : List ℕ) × IsUnbroken part × (all ≡ part ++ rest)
 Gives Spent kept stopped all rest = (part : List ℕ) × IsUnbroken part × (all ≡ part ++ rest)

@@ -1,5 +1,5 @@
--- A source over a reader and a sink over a writer: what is seen of them, and what a call does to bytes that the reader
--- or the writer tells.
+-- A source over a reader and a sink over a writer: what is seen of them, and what a call does
+-- to bytes that the reader or the writer tells.
 use Rattle.std.specs.Prelude.{ℕ, ◌≤◌, ◌==◌, if◌then◌else◌, List, [], length, take, Option, None, Result, Ok, Err}
 use Rattle.std.specs.Io.KnownBytes.{Keeps, Appends, Consumes, IsAtEnd}
 use Rattle.stream_model.specs.Streams.{SourceState, SinkState}

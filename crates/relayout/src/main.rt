@@ -1,6 +1,9 @@
 //! The program `relayout`: a script of requests on standard input, one a line, and the replies on standard output.
 #![tactic(auto)]
 
+#[cfg(test)]
+mod tests;
+
 use port_core::{NoMemory, StdSink, StdSource, Steps};
 use relayout_cli::{Status, run};
 use std::env;

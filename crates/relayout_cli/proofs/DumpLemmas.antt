@@ -8,8 +8,8 @@ use Rattle.layout_model.specs.Boxes.{units_of_pixels}
 use Rattle.layout_model.specs.Consistent.{Holds, AllHold, Consistent}
 use Rattle.reply_model.specs.DumpText.{box_line, box_lines, all_box_lines}
 use Rattle.reply_model.specs.Spelling.{ok_line}
-use Rattle.dom_arena.specs.Children.{AreFound}
-use Rattle.dom_arena.proofs.Found.{find-kids}
+use Rattle.dom_arena.specs.Found.{AreFound}
+use Rattle.dom_arena.proofs.Found.{find-children}
 use Rattle.relayout_cli.specs.inner.Flat.{flat_box, all_flat, flat_in}
 use Rattle.relayout_cli.specs.inner.Walk.{node_at}
 use Rattle.relayout_cli.specs.inner.Dumps.{IsDumpOf}
@@ -25,7 +25,7 @@ mutual
     record { box = flat_box width },
     rw f refl,
     record { left = refl; top = refl; width = refl; height = refl; content_left = refl; content_top = refl; content_width = refl; content_height = refl },
-    all-hold-flat width root kids d (find-kids id root (element id name attributes kids) d f),
+    all-hold-flat width root kids d (find-children id root (element id name attributes kids) d f),
   )
   holds-flat width root (text id cs) d f = tt
 
@@ -37,7 +37,7 @@ mutual
   lines-flat : (width : ℤ) (root n : Node) → AreDistinct (ids root) → find (id_of n) root ≡ Some n → box_lines (flat_in width root) (pos 0) (pos 0) n ≡ box_lines (all_flat width) (pos 0) (pos 0) n
   lines-flat width root (element id name attributes kids) d f =
       rw f (ap (λ (lines : List ℕ). box_line id (encode_utf8_all name) (pos 0) (pos 0) (flat_box width) ++ lines)
-      (all-lines-flat width root kids d (find-kids id root (element id name attributes kids) d f)))
+      (all-lines-flat width root kids d (find-children id root (element id name attributes kids) d f)))
   lines-flat width root (text id cs) d f = refl
 
   all-lines-flat : (width : ℤ) (root : Node) (ns : Nodes) → AreDistinct (ids root) → AreFound root ns → all_box_lines (flat_in width root) (pos 0) (pos 0) ns ≡ all_box_lines (all_flat width) (pos 0) (pos 0) ns

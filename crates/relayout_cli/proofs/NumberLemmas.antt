@@ -1,7 +1,7 @@
 -- Numbers that no node has.
 use Rattle.std.proofs.Common.{◌≡◌, ℕ, ◌<◌, ◌≤◌, Option, Some, None, is_some, true, refl, arith}
 use Rattle.page_model.specs.Document.{Node, ids, find, IsAmong}
-use Rattle.dom_arena.proofs.Members.{find-among}
+use Rattle.page_laws.proofs.Find.{find-among}
 
 none-at : (o : Option Node) → (is_some o ≡ true → ⊥) → o ≡ None
 none-at None h = refl

@@ -3,7 +3,7 @@ use Rattle.std.proofs.Common.{◌≡◌, ◌∙◌, ap, refl, ℕ, ◌-◌, ◌�
 use Rattle.std.specs.Prelude.{ℤ, pos}
 use Rattle.page_model.specs.Document.{Node, element, text, Nodes, no_nodes, node, id_of, ids_of, children_of, name_of, find, height, heights}
 use Rattle.page_model.specs.Document.{child_ids}
-use Rattle.dom_arena.specs.Children.{AreFound}
+use Rattle.dom_arena.specs.Found.{AreFound}
 use Rattle.layout_model.specs.Boxes.{Box}
 use Rattle.relayout_cli.proofs.ReplyLemmas.{OnOk-after}
 use Rattle.reply_model.specs.DumpText.{box_line, box_lines, all_box_lines}

@@ -6,3 +6,4 @@ pub mod Dumps
 pub mod Edits
 pub mod Coming
 pub mod Turns
+pub mod Examples

@@ -101,14 +101,14 @@ fn texts_or_none(alloc: Global, texts: Option<Seq<Text>>) -> Seq<Text>
 /// Inserts `tree` at `index` among the children of `parent`.
 fn apply_insert(page: &mut Page, parent: u64, index: u64, tree: &Tree) -> Result<Accepted, Refusal>
     ensures accepted { IfOk result (λ a. a
-        ≡ record { first = page.old.document.next_id; count = size (shape tree.now) }) }
+        ≡ record { first = page.old.document.document.next_id; count = size (shape tree.now) }) }
     ensures page { OnOk result (page_view page.new
         ≡ with_document (document_after_insert parent index (shape tree.now))
         (page_view page.old)) }
     ensures allowed { OnOk result
-        (first_of (insert_causes parent index (shape tree.now) page.old.document) ≡ None) }
+        (first_of (insert_causes parent index (shape tree.now) page.old.document.document) ≡ None) }
     ensures refused { IfErr result
-        (IsRefusedBy (insert_causes parent index (shape tree.now) page.old.document)) }
+        (IsRefusedBy (insert_causes parent index (shape tree.now) page.old.document.document)) }
     ensures kept { OnErr result (page.new ≡ page.old) }
 {
     let parent = node_id(&page.document, parent)?;
@@ -123,8 +123,8 @@ fn apply_remove(page: &mut Page, id: u64) -> Result<Accepted, Refusal>
     ensures accepted { IfOk result (λ a. a ≡ record { first = 0; count = 0 }) }
     ensures page { OnOk result (page_view page.new
         ≡ with_document (document_after_remove id) (page_view page.old)) }
-    ensures allowed { OnOk result (first_of (remove_causes id page.old.document) ≡ None) }
-    ensures refused { IfErr result (IsRefusedBy (remove_causes id page.old.document)) }
+    ensures allowed { OnOk result (first_of (remove_causes id page.old.document.document) ≡ None) }
+    ensures refused { IfErr result (IsRefusedBy (remove_causes id page.old.document.document)) }
     ensures kept { OnErr result (page.new ≡ page.old) }
 {
     let id = node_id(&page.document, id)?;
@@ -132,15 +132,15 @@ fn apply_remove(page: &mut Page, id: u64) -> Result<Accepted, Refusal>
     Ok(Accepted { first: 0, count: 0 })
 }
 
-/// Returns `number` as the id of a node, or refuses it where it is greater than the id of any node.
+/// Returns `number` as an id, or refuses it where it was not given to any node.
 fn node_id(document: &Doc, number: u64) -> Result<NodeId, Refusal>
     ensures id { IfOk result (λ id. id ≡ number) }
-    ensures missing { IfErr result (λ r. (r ≡ no_node) × (find number document.now.root ≡ None)) }
+    ensures missing { IfErr result (λ r. (r ≡ no_node)
+        × (find number document.now.document.root ≡ None)) }
 {
-    // What holds of each document: its ids are small.
-    let _root = document.root();
-    match NodeId::try_from(number) {
-        Ok(id) => Ok(id),
-        Err(_) => Err(Refusal::NoNode),
+    if number < document.next_id() as u64 {
+        Ok(number as NodeId)
+    } else {
+        Err(Refusal::NoNode)
     }
 }

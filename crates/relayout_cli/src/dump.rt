@@ -45,10 +45,10 @@ fn push_boxes(
     width: Units,
     levels: u32,
 ) -> Result<(), NoMemory>
-    requires { Reaches levels id doc.now.root }
+    requires { Reaches levels id doc.now.document.root }
     ensures { OnOk result (string_bytes reply.new
         ≡ string_bytes reply.old ++ box_lines (all_flat width) (pos 0) (pos 0)
-        (node_at id doc.now.root)) }
+        (node_at id doc.now.document.root)) }
 {
     match doc.tag(id) {
         Some(tag) => {
@@ -69,10 +69,10 @@ fn push_children(
     width: Units,
     levels: u32,
 ) -> Result<(), NoMemory>
-    requires { AllReach levels kids doc.now.root }
+    requires { AllReach levels kids doc.now.document.root }
     ensures { OnOk result (string_bytes reply.new
         ≡ string_bytes reply.old ++ all_box_lines (all_flat width) (pos 0) (pos 0)
-        (nodes_at kids.entry doc.now.root)) }
+        (nodes_at kids.entry doc.now.document.root)) }
 {
     for kid in kids {
         push_boxes(reply, doc, kid, width, levels)?;

@@ -3,74 +3,16 @@ ghost use Rattle.std.specs.Prelude.{◌≡◌, ◌≢◌, ℕ, [], ◌∷◌, So
 ghost use Rattle.stream_model.specs.Ledger.{mark, pair};
 ghost use Rattle.stream_model.specs.declared.kind.Kind.TheVariants.{Match};
 ghost use Rattle.relayout_cli.specs.Runs.{setting_of, AllOnce, LogsOnce, FaultsBy, HasFewer, IsDoneButForMemory, most_of_first, IsWritten, CountBy};
+ghost use Rattle.relayout_cli.specs.inner.Examples.{run_after_faults};
 ghost use Rattle.relayout_cli.specs.declared.status.Status.TheVariants.{Done, ReadFault, WriteFault, NoMemory, InputSpent};
 
 /// A run is `Done` only where neither side failed, and a fault is told by the side whose count rose.
 pub fn examples_of_causes()
-    ensures done_without_faults { FaultsBy Done (record {
-      before = record {
-        source = record { left = None; taken = 0; faults = 3 };
-        sink = record { held = None; faults = 5 };
-        ledger = [];
-      };
-      after = record {
-        source = record { left = None; taken = 9; faults = 3 };
-        sink = record { held = None; faults = 5 };
-        ledger = [];
-      };
-    }) }
-    ensures not_done_with_a_fault_of_the_sink { FaultsBy Done (record {
-      before = record {
-        source = record { left = None; taken = 0; faults = 3 };
-        sink = record { held = None; faults = 5 };
-        ledger = [];
-      };
-      after = record {
-        source = record { left = None; taken = 9; faults = 3 };
-        sink = record { held = None; faults = 6 };
-        ledger = [];
-      };
-    })
-        → ⊥ }
-    ensures not_done_with_a_fault_of_the_source { FaultsBy Done (record {
-      before = record {
-        source = record { left = None; taken = 0; faults = 3 };
-        sink = record { held = None; faults = 5 };
-        ledger = [];
-      };
-      after = record {
-        source = record { left = None; taken = 9; faults = 4 };
-        sink = record { held = None; faults = 5 };
-        ledger = [];
-      };
-    })
-        → ⊥ }
-    ensures read_fault { FaultsBy ReadFault (record {
-      before = record {
-        source = record { left = None; taken = 0; faults = 3 };
-        sink = record { held = None; faults = 5 };
-        ledger = [];
-      };
-      after = record {
-        source = record { left = None; taken = 9; faults = 3 };
-        sink = record { held = None; faults = 6 };
-        ledger = [];
-      };
-    })
-        → ⊥ }
-    ensures write_fault { FaultsBy WriteFault (record {
-      before = record {
-        source = record { left = None; taken = 0; faults = 3 };
-        sink = record { held = None; faults = 5 };
-        ledger = [];
-      };
-      after = record {
-        source = record { left = None; taken = 9; faults = 4 };
-        sink = record { held = None; faults = 5 };
-        ledger = [];
-      };
-    })
-        → ⊥ }
+    ensures done_without_faults { FaultsBy Done (run_after_faults 3 5) }
+    ensures not_done_with_a_fault_of_the_sink { FaultsBy Done (run_after_faults 3 6) → ⊥ }
+    ensures not_done_with_a_fault_of_the_source { FaultsBy Done (run_after_faults 4 5) → ⊥ }
+    ensures read_fault { FaultsBy ReadFault (run_after_faults 3 6) → ⊥ }
+    ensures write_fault { FaultsBy WriteFault (run_after_faults 4 5) → ⊥ }
     ensures a_script_has_fewer { HasFewer (Some (1 ∷ 2 ∷ 3 ∷ [])) 0 0 }
     ensures a_count_has_fewer { HasFewer None 5 4294967300 }
     ensures a_count_has_not_fewer { HasFewer None 5 4294967301 → ⊥ }
@@ -78,6 +20,18 @@ pub fn examples_of_causes()
     ensures not_spent { CountBy InputSpent 4294967295 → ⊥ }
     ensures not_read_fault_at_the_end { CountBy ReadFault 4294967296 → ⊥ }
     ensures done_before_the_end { CountBy Done 4294967296 → ⊥ }
+{}
+
+/// All of a text is written, unless the sink failed.
+pub fn examples_of_what_is_written()
+    ensures done { IsWritten (setting_of 1) Done ([] ∷ []) (1 ∷ 2 ∷ []) (1 ∷ 2 ∷ []) }
+    ensures not_done_in_part { IsWritten (setting_of 1) Done ([] ∷ []) (1 ∷ 2 ∷ []) (1 ∷ []) → ⊥ }
+    ensures not_read_fault_in_part { IsWritten (setting_of 1) ReadFault ([] ∷ []) (1 ∷ 2 ∷ []) (1 ∷ [])
+        → ⊥ }
+    ensures not_without_memory_in_part { IsWritten (setting_of 1) NoMemory ([] ∷ []) (1 ∷ 2 ∷ []) (1 ∷ [])
+        → ⊥ }
+    ensures not_spent_in_part { IsWritten (setting_of 1) InputSpent ([] ∷ []) (1 ∷ 2 ∷ []) (1 ∷ []) → ⊥ }
+    ensures write_fault_in_part { IsWritten (setting_of 1) WriteFault ([] ∷ []) (1 ∷ 2 ∷ []) (1 ∷ []) }
 {}
 
 /// A log has no pair twice, and the setting is the one of the profile.

@@ -5,8 +5,6 @@ mod apply;
 mod boxes;
 mod dump;
 mod examples;
-#[cfg(test)]
-mod linked_tests;
 mod page;
 mod plain;
 mod replies;
@@ -14,10 +12,8 @@ mod respond;
 mod running;
 mod serving;
 mod status;
-#[cfg(test)]
-mod tests;
 
-pub use examples::{examples_of_causes, examples_of_logs};
+pub use examples::{examples_of_causes, examples_of_logs, examples_of_what_is_written};
 pub use running::run;
 pub use serving::serve;
 pub use status::Status;

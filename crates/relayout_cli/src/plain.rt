@@ -57,5 +57,5 @@ fn is_div(name: &Text) -> bool
 fn has_none(attributes: &Attrs) -> bool
     ensures { result ≡ is_empty attributes.now }
 {
-    attributes.is_empty()
+    attributes.as_slice().is_empty()
 }

@@ -5,8 +5,6 @@ mod grammar;
 mod line;
 mod members;
 mod request;
-#[cfg(test)]
-mod tests;
 mod unread;
 
 pub use line::ask;

@@ -1,7 +1,4 @@
 pub mod AreLogs
-pub mod FirstOf
-pub mod IsPlain
-pub mod KeepsLimits
 pub mod NewIds
 pub mod StateHasGivenIds
 pub mod StateKeepsLimits

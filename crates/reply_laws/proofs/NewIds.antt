@@ -8,8 +8,8 @@ use Rattle.page_model.specs.Edits.{insert_causes}
 use Rattle.page_model.specs.Pages.{State}
 use Rattle.page_model.specs.Trees.{Text, Tree}
 use Rattle.page_model.specs.declared.cause.Cause.TheVariants.{NotBuilt, NotLoaded}
-use Rattle.reply_laws.proofs.FirstOf.{first-false}
-use Rattle.reply_laws.proofs.KeepsLimits.{place-of_insert}
+use Rattle.page_laws.proofs.FirstOf.{first-false}
+use Rattle.page_laws.proofs.KeptLimits.{place-of_insert}
 use Rattle.reply_laws.specs.States.{StateHasGivenIds, ids_of_state, new_ids}
 use Rattle.request_model.specs.Requests.{edit, insert, load}
 use Rattle.request_model.specs.States.{accepted_by, is_plain, refusal_of, state_after_edit}

@@ -1,5 +1,5 @@
 -- The limits of what is loaded after a turn.
-use Rattle.std.proofs.Common.{Bool, List, None, Option, Some, false, is_some, ltb-false, nat_lt, not, refl, subst, sym, true, ℕ, ◌||◌, ◌∷◌, ◌≡◌}
+use Rattle.std.proofs.Common.{List, None, Option, Some, is_some, ltb-false, nat_lt, not, refl, subst, sym, ℕ, ◌||◌, ◌∷◌, ◌≡◌}
 use Rattle.layout_model.specs.Setting.{Setting}
 use Rattle.page_laws.proofs.Options.{or-false}
 use Rattle.page_model.specs.Edits.{insert_causes, load_causes}
@@ -8,17 +8,13 @@ use Rattle.page_model.specs.Refusals.{Causes}
 use Rattle.page_model.specs.declared.limits.TheConstants.{MAX_SIDE}
 use Rattle.page_model.specs.declared.cause.Cause.{Cause}
 use Rattle.page_model.specs.declared.cause.Cause.TheVariants.{NotBuilt, ViewportRange}
-use Rattle.reply_laws.proofs.FirstOf.{first-false}
-use Rattle.reply_laws.proofs.KeepsLimits.{kept-inserted, kept-loaded, kept-removed}
+use Rattle.page_laws.proofs.FirstOf.{first-false}
+use Rattle.page_laws.proofs.KeptLimits.{kept-inserted, kept-loaded, kept-removed}
 use Rattle.reply_laws.specs.States.{StateHasGivenIds, StateKeepsLimits}
 use Rattle.reply_model.specs.Replies.{Course, IsAnswered, IsTurn}
 use Rattle.request_model.specs.Requests.{Asked, Edit, Request, broken, edit, insert, load, nothing, query, remove, request}
 use Rattle.request_model.specs.States.{answer_by, edit_causes, is_plain, refusal_of, state_after_edit}
 use Rattle.stream_model.specs.Ledger.{Log}
-
-not-false : (b : Bool) → not b ≡ false → b ≡ true
-not-false true h = refl
-not-false false h = absurd (cc)
 
 kept-after_edit : (s : State) (e : Edit) → StateHasGivenIds s → StateKeepsLimits s → refusal_of s (edit e) ≡ None → StateKeepsLimits (state_after_edit s e)
 unfolding refusal_of
@@ -29,7 +25,7 @@ kept-after_edit s (load width height doc sheets) given keeps none =
     let c = first-false (nat_lt MAX_SIDE width || nat_lt MAX_SIDE height) ViewportRange (load_causes doc) b.1 in
     let side = or-false (nat_lt MAX_SIDE width) (nat_lt MAX_SIDE height) c.0 in
     record {
-      document = kept-loaded doc (not-false (is_plain doc) b.0) c.1;
+      document = kept-loaded doc c.1;
       width = ltb-false MAX_SIDE width side.0;
       height = ltb-false MAX_SIDE height side.1;
     }
@@ -37,7 +33,7 @@ kept-after_edit None (insert parent index new) given keeps none = tt
 kept-after_edit (Some page) (insert parent index new) given keeps none =
     let a = first-false (not (is_plain new)) NotBuilt (insert_causes parent index new page.document) none in
     record {
-      document = kept-inserted parent index new page.document given keeps.document (not-false (is_plain new) a.0) a.1;
+      document = kept-inserted parent index new page.document given keeps.document a.1;
       width = keeps.width;
       height = keeps.height;
     }

@@ -1,4 +1,5 @@
--- The ledger of counted work: pairs of a kind of work and the id of a node, and a mark before those of each load or edit.
+-- The ledger of counted work: pairs of a kind of work and the id of a node, and a mark before
+-- those of each load or edit.
 use Rattle.std.specs.Prelude.{ℕ, ◌+◌, map, List, [], ◌∷◌, ◌++◌, Bool, true, false, if◌then◌else◌}
 use Rattle.stream_model.specs.declared.kind.Kind.{Kind}
 use Rattle.stream_model.specs.declared.kind.Kind.TheVariants.{Match, Style, Measure, Size, Place}
@@ -36,7 +37,8 @@ has_mark [] = false
 has_mark (mark ∷ es) = true
 has_mark (pair kind id ∷ es) = has_mark es
 
--- how many pairs of a kind come after the last mark, or in all where there is no mark: those that no mark follows
+-- how many pairs of a kind come after the last mark, or in all where there is no mark: those that
+-- no mark follows
 abbrev pub count_since_mark : Kind → List Event → ℕ
 count_since_mark kind [] = 0
 count_since_mark kind (mark ∷ es) = count_since_mark kind es

@@ -30,13 +30,15 @@ onto_first b (line ∷ lines) = (b ∷ line) ∷ lines
 -- the lines that end with a newline
 abbrev pub whole_lines : List ℕ → List (List ℕ)
 whole_lines [] = []
-whole_lines (b ∷ bytes) = if b == newline then [] ∷ whole_lines bytes else onto_first b (whole_lines bytes)
+whole_lines (b ∷ bytes) =
+    if b == newline then [] ∷ whole_lines bytes else onto_first b (whole_lines bytes)
 
 -- a space, a tab or a carriage return
 abbrev pub is_space : ℕ → Bool
 is_space b = (b == 32) || ((b == 9) || (b == 13))
 
--- a line of spaces, tabs and carriage returns alone, or of no byte: it is passed over, unless it is too long
+-- a line of spaces, tabs and carriage returns alone, or of no byte: it is passed over, unless it is
+-- too long
 abbrev pub is_blank : List ℕ → Bool
 is_blank line = list_all is_space line
 

@@ -1,5 +1,6 @@
--- What is among the elements of a list, and whether they are distinct. These are by recursion on the list, so that
--- examples compute and proofs go along the list; std's words for them are by index.
+-- What is among the elements of a list, and whether they are distinct. These are by recursion on
+-- the list, so that examples compute and proofs go along the list; std's words for them are by
+-- index.
 use Rattle.std.specs.Prelude.{◌≡◌, ◌⊎◌, List, [], ◌∷◌}
 
 -- x is an element of the list

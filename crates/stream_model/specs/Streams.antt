@@ -1,7 +1,8 @@
 -- What is seen of a source and of a sink, and what happens to it.
 use Rattle.std.specs.Prelude.{◌≡◌, ℕ, ◌+◌, ◌-◌, ◌^◌, ◌≤◌, min, max, List, [], ◌++◌, length, take, Option, Some, None}
 
--- what is seen of a source: the bytes left where it tells them, how many bytes were taken, and how often it failed
+-- what is seen of a source: the bytes left where it tells them, how many bytes were taken, and how
+-- often it failed
 pub record SourceState : Type 0 where
   pub left : Option (List ℕ)
   pub taken : ℕ
@@ -12,7 +13,8 @@ pub record SinkState : Type 0 where
   pub held : Option (List ℕ)
   pub faults : ℕ
 
--- R holds of what a stream told before and tells now, if it tells; a stream that tells goes on telling
+-- R holds of what a stream told before and tells now, if it tells; a stream that tells goes on
+-- telling
 abbrev pub FromTo : Option (List ℕ) → Option (List ℕ) → (List ℕ → List ℕ → Type 0) → Type 0
 FromTo None None R = Unit {0}
 FromTo (Some old) (Some new) R = R old new
@@ -46,7 +48,8 @@ Takes left left' bytes = FromTo left left' (λ old new. old ≡ bytes ++ new)
 
 -- n bytes were taken from the front
 abbrev pub TakesCount : Option (List ℕ) → Option (List ℕ) → ℕ → Type 0
-TakesCount left left' n = FromTo left left' (λ old new. (bytes : List ℕ) × (old ≡ bytes ++ new) × (length bytes ≡ n))
+TakesCount left left' n =
+    FromTo left left' (λ old new. (bytes : List ℕ) × (old ≡ bytes ++ new) × (length bytes ≡ n))
 
 -- these bytes were appended
 abbrev pub Appends : Option (List ℕ) → Option (List ℕ) → List ℕ → Type 0
@@ -54,4 +57,5 @@ Appends held held' bytes = FromTo held held' (λ old new. new ≡ old ++ bytes)
 
 -- a prefix of these bytes was appended
 abbrev pub AppendsPart : Option (List ℕ) → Option (List ℕ) → List ℕ → Type 0
-AppendsPart held held' bytes = FromTo held held' (λ old new. (k : ℕ) × (k ≤ length bytes) × (new ≡ old ++ take k bytes))
+AppendsPart held held' bytes =
+    FromTo held held' (λ old new. (k : ℕ) × (k ≤ length bytes) × (new ≡ old ++ take k bytes))

@@ -1,9 +1,9 @@
 -- The piece that was found in front of a text.
-use Rattle.std.specs.Prelude.{◌≡◌, ℕ, List, [], ◌∷◌, length, Option, Some, None}
+use Rattle.std.specs.Prelude.{◌≡◌, ℕ, List, [], ◌∷◌, length, drop, Option, Some, None}
+use Rattle.std.specs.Str.{chars}
 use Rattle.css_model.specs.Classes.{Text}
 use Rattle.css_model.specs.declared.token.Token.{Token}
 use Rattle.css_model.specs.declared.token.TokenType.{TokenType}
-use Rattle.css_model.specs.inner.Pieces.{first_piece}
 use Rattle.css_model.specs.TokenList as model
 use Rattle.css_model.specs.TokenList.{piece_text, token_at}
 use Rattle.css_tokens.specs.declared.piece.Piece.{Piece}
@@ -13,14 +13,10 @@ abbrev pub type_of : model.Piece → Option TokenType
 type_of (model.comment s) = None
 type_of (model.token token_type s) = Some token_type
 
--- what was found is this piece, by the type of its token and by its length
-abbrev pub IsFound : Piece → model.Piece → Type 0
-IsFound p m = (p.token_type ≡ type_of m) × (p.count ≡ length (piece_text m))
-
--- what was found is the first piece of this text
-abbrev pub IsFront : Text → Piece → Type 0
-IsFront [] p = Unit {0}
-IsFront (c ∷ cs) p = IsFound p (first_piece c cs)
+-- what was found in front of this text is this piece, by the type of its token and by the text
+-- after it
+abbrev pub IsFound : Piece → model.Piece → Text → Type 0
+IsFound p m text = (p.token_type ≡ type_of m) × (chars p.rest.now ≡ drop (length (piece_text m)) text)
 
 -- the token of this type, place and spelling, if there is a type
 abbrev pub tokens_of_type : Option TokenType → ℕ → Text → List Token

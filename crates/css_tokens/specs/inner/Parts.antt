@@ -1,6 +1,7 @@
 -- The part of the definition that a part is, and the one in front of a text.
-use Rattle.std.specs.Prelude.{ℕ, ◌==◌, ◌&&◌, not, [], ◌∷◌, Option, Some, None, Bool, if◌then◌else◌}
+use Rattle.std.specs.Prelude.{ℕ, ◌<◌, ◌==◌, ◌&&◌, not, [], ◌∷◌, Option, Some, None, Bool, if◌then◌else◌}
 use Rattle.css_model.specs.declared.place.Place.{Place}
+use Rattle.css_model.specs.declared.place.Place.TheVariants.{InString}
 use Rattle.css_model.specs.Classes.{Text, backslash}
 use Rattle.css_model.specs.Parts as model
 use Rattle.css_model.specs.Parts.{is_allowed, may_stand}
@@ -14,6 +15,11 @@ part_view (Escaped c) = model.escaped c
 part_view (HexEscape digits blank) = model.hex_escape digits.now blank.now
 part_view EscapedNewline = model.escaped_newline
 part_view EscapeAtEnd = model.escape_at_end
+
+-- the quote of a string is ASCII
+abbrev pub HasAsciiQuote : Place → Type 0
+HasAsciiQuote (InString quote) = quote < 128
+HasAsciiQuote place = Unit {0}
 
 -- the part in front, if it may stand at this place
 abbrev pub front_part : Place → Text → Option model.Part

@@ -11,7 +11,8 @@ IsDraftOf draft front = (draft ≡ front) ⊎ ((MAX_LINE < length draft) × (len
 -- a piece was appended to a draft, or as much of it as shows that the line is too long
 abbrev pub Absorbs : List ℕ → List ℕ → List ℕ → Type 0
 Absorbs draft piece draft' =
-    (draft' ≡ draft ++ piece) ⊎ ((MAX_LINE < length draft') × (length draft' ≤ length draft + length piece))
+    (draft' ≡ draft ++ piece)
+    ⊎ ((MAX_LINE < length draft') × (length draft' ≤ length draft + length piece))
 
 -- a finished draft is a line; or it shows that the line is too long, and is emptied
 abbrev pub Settles : Line → List ℕ → List ℕ → Type 0

@@ -19,7 +19,8 @@ StaysStopped (Some Spent) w = (w.pending ≡ []) × (w.taken ≡ MAX_TAKEN)
 -- what a call of a reader that had not stopped gives, and leaves of the reader and its source
 pub record Reads (answer : Line) (old new : Reader) (source source' : SourceState) : Type 0 where
   pub lines :
-      FromTo (ahead old.pending source.left) (ahead new.pending source'.left) (Gives answer new.line new.stopped)
+      FromTo (ahead old.pending source.left) (ahead new.pending source'.left)
+      (Gives answer new.line new.stopped)
   pub told : TakesCount source.left source'.left (new.taken - old.taken)
   pub kept : KeepsLine answer new.line
   pub stops : Stops answer new

@@ -12,7 +12,8 @@ use Rattle.port_core.specs.declared.window.Refill.TheVariants as refill
 use Rattle.port_core.specs.declared.window.Stop.{Stop}
 use Rattle.port_core.specs.declared.window.Stop.TheVariants as stop
 
--- a window: the bytes that were pulled and not moved into a line yet, and how many were pulled in its life
+-- a window: the bytes that were pulled and not moved into a line yet, and how many were pulled in
+-- its life
 pub record Intake : Type 0 where
   pub pending : List ℕ
   pub taken : ℕ
@@ -112,7 +113,8 @@ pub record Collecting (old new : Intake) (draft : List ℕ) (source source' : So
 
 -- a line was collected up to its newline
 pub record CollectsLine (old new : Intake) (draft : List ℕ) (source source' : SourceState) : Type 0 where
-  pub bytes : FromTo (ahead old.pending source.left) (ahead new.pending source'.left) (TakesUpLine draft)
+  pub bytes : FromTo (ahead old.pending source.left) (ahead new.pending source'.left)
+      (TakesUpLine draft)
   pub moves : Advances old new source source'
   pub effort_less : effort new < effort old
   pub faults : source'.faults ≡ source.faults

@@ -1,32 +1,17 @@
-use Rattle.std.proofs.Common.{◌≡◌, ◌∙◌, ap, sym, Some, None}
-use Rattle.std.specs.Prelude.{option_map}
+use Rattle.std.proofs.Common.{◌∙◌, ap, sym}
+use Rattle.std.specs.Str.{chars}
 use Rattle.css_model.specs.declared.place.Place.TheVariants.{InName}
-use Rattle.css_model.specs.Parts.{follows_hyphen}
+use Rattle.css_model.specs.Parts.{would_start_ident}
 use Rattle.css_model.specs.inner.Fronts.{parts_in}
-use Rattle.css_tokens.specs.inner.Parts.{part_view, front_part}
-use Rattle.css_tokens.proofs.PartSteps.{ident-first, ident-hyphen, ident-other, ident-none}
+use Rattle.css_model.proofs.PartLemmas.{parts_in-nil}
+use Rattle.css_tokens.proofs.PartSteps.{start-other, unequal}
 use Rattle.css_tokens.proofs.parts.would_start_ident.Goals as goal
 
-pub returns-then-starts_name : goal.returns-then-starts_name
-returns-then-starts_name c =
-    let found : front_part InName c.args.cs.now ≡ Some (part_view c.in-Some.part) =
-    sym c.front_part.ensures ∙ ap (option_map part_view) c.in-Some.is in
-    c.if-starts_name.true ∙ sym (ident-first c.args.cs.now (part_view c.in-Some.part) found (sym c.starts_name.ensures ∙ c.if-starts_name.true))
-
-pub returns-then-is_hyphen : goal.returns-then-is_hyphen
-returns-then-is_hyphen c =
-    let found : front_part InName c.args.cs.now ≡ Some (part_view c.in-Some.part) =
-    sym c.front_part.ensures ∙ ap (option_map part_view) c.in-Some.is in
-    c.follows_hyphen.ensures ∙ (ap (λ cs. follows_hyphen (parts_in InName cs)) c.after.ensures
-    ∙ sym (ident-hyphen c.args.cs.now (part_view c.in-Some.part) found (sym c.starts_name.ensures ∙ c.if-starts_name.false) (sym c.is_hyphen.ensures ∙ c.if-is_hyphen.true)))
-
-pub returns-else-is_hyphen : goal.returns-else-is_hyphen
-returns-else-is_hyphen c =
-    let found : front_part InName c.args.cs.now ≡ Some (part_view c.in-Some.part) =
-    sym c.front_part.ensures ∙ ap (option_map part_view) c.in-Some.is in
-    c.if-is_hyphen.false ∙ sym (ident-other c.args.cs.now (part_view c.in-Some.part) found (sym c.starts_name.ensures ∙ c.if-starts_name.false) (sym c.is_hyphen.ensures ∙ c.if-is_hyphen.false))
+pub returns-else-c-eq92 : goal.returns-else-c-eq92
+returns-else-c-eq92 c =
+    c.is_ident_start.ensures
+    ∙ (start-other c.in-Some.c (chars c.in-Some.field-0-1.now) (unequal c.in-Some.c 45 c.if-c-eq92.false.0) (unequal c.in-Some.c 92 c.if-c-eq92.false.1)
+    ∙ ap (λ l. would_start_ident (parts_in InName l)) (sym c.in-Some.ensures))
 
 pub returns-in-None : goal.returns-in-None
-returns-in-None c =
-    let found : front_part InName c.args.cs.now ≡ None = sym c.front_part.ensures ∙ ap (option_map part_view) c.in-None.is in
-    sym (ident-none c.args.cs.now found)
+returns-in-None c = sym (ap (λ l. would_start_ident (parts_in InName l)) c.in-None.ensures ∙ ap would_start_ident (parts_in-nil InName))

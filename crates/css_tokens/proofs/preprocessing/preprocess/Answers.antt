@@ -1,6 +1,8 @@
-use Rattle.std.proofs.Common.{◌∙◌, ap, sym, ◌++◌, map-id}
+use Rattle.std.proofs.Common.{◌∙◌, ap, refl, sym, ◌++◌, map-id}
 use Rattle.std.proofs.lemmas.Iterator.{YieldsList-from_chars}
 use Rattle.std.proofs.lemmas.Iterator.Consumers.{YieldsList-end}
+use Rattle.std.specs.Str.{chars}
+use Rattle.std.proofs.lemmas.Str.{chars-nil}
 use Rattle.css_model.specs.Preprocessing.{preprocessed}
 use Rattle.css_tokens.specs.inner.Replacing.{kept_after}
 use Rattle.css_tokens.proofs.PreprocessedFronts.{preprocessed-push, last-push}
@@ -17,3 +19,6 @@ pub returns : goal.returns
 returns c =
     let end = YieldsList-end (YieldsList-from_chars c.args.text.now c.utf8.text cc) c.loop-c.yielded _ c.loop-c.yielded_by _ _ c.in-None.is c.next.ensures.steps in
     c.loop-c.invariant.kept ∙ ap preprocessed (sym (map-id c.loop-c.yielded) ∙ end.0)
+
+pub loop-c-init : goal.loop-c-init
+loop-c-init c = record { kept = ap chars c.in_ok-kept.ensures.bytes ∙ chars-nil; before = refl }

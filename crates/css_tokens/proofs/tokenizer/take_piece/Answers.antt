@@ -1,22 +1,24 @@
-use Rattle.std.proofs.Common.{◌≡◌, ◌<◌, ◌∙◌, ap, subst, ◌++◌, length, drop, take, length-drop, arith}
-use Rattle.css_tokens.specs.inner.Found.{IsFront, tokens_of_type}
-use Rattle.css_tokens.proofs.FoundPieces.{count-some, count-within, taken-step}
+use Rattle.std.specs.Str.{chars}
+use Rattle.css_tokens.proofs.FoundPieces.{Step, text-step}
+use Rattle.css_tokens.proofs.LeftSteps.{left-shorter, left-within, left-tokens}
 use Rattle.css_tokens.proofs.tokenizer.take_piece.Goals as goal
 
-pub split_at-requires : goal.split_at-requires
-split_at-requires c =
-    let size : length c.after-rest.result.now ≡ length (drop c.args.at c.args.cs.now) = ap length c.after-rest.ensures in
-    let some : 0 < length c.after-rest.result.now = omega (arith, size, length-drop c.args.at c.args.cs.now, c.requires) in
-    count-within c.after-rest.result.now c.in_ok-piece.piece some c.in_ok-piece.ensures
+pub keep_piece-requires-clause-rest : goal.keep_piece-requires-clause-rest
+keep_piece-requires-clause-rest c =
+    let step : Step (chars c.args.left.text.now) c.args.left.start c.in-Ok.piece = text-step (chars c.args.left.text.now) c.args.c (chars c.args.rest.now) c.args.left.start c.in-Ok.piece c.requires.split c.in-Ok.ensures in
+    step.rest
 
-pub returns-clause-forward : goal.returns-clause-forward
-returns-clause-forward c =
-    let size : length c.after-rest.result.now ≡ length (drop c.args.at c.args.cs.now) = ap length c.after-rest.ensures in
-    let some : 0 < length c.after-rest.result.now = omega (arith, size, length-drop c.args.at c.args.cs.now, c.requires) in
-    omega (arith, count-some c.after-rest.result.now c.in_ok-piece.piece some c.in_ok-piece.ensures)
+pub returns-in-Ok-clause-shorter : goal.returns-in-Ok-clause-shorter
+returns-in-Ok-clause-shorter c =
+    let step : Step (chars c.args.left.text.now) c.args.left.start c.in-Ok.piece = text-step (chars c.args.left.text.now) c.args.c (chars c.args.rest.now) c.args.left.start c.in-Ok.piece c.requires.split c.in-Ok.ensures in
+    left-shorter c.keep_piece.result c.args.left c.in-Ok.piece step c.keep_piece.ensures.text
 
-pub returns-clause-taken : goal.returns-clause-taken
-returns-clause-taken c =
-    let front : IsFront (drop c.args.at c.args.cs.now) c.in_ok-piece.piece = subst (λ cs. IsFront cs c.in_ok-piece.piece) c.after-rest.ensures c.in_ok-piece.ensures in
-    taken-step c.args.cs.now c.args.at c.in_ok-piece.piece (c.args.tokens.now) (c.keep_token.new.tokens) c.requires front
-    (c.in_ok-keep_token.ensures ∙ ap (λ s. c.args.tokens.now ++ tokens_of_type (c.in_ok-piece.piece.token_type) c.args.at s) (c.split_at.ensures.front ∙ ap (take c.in_ok-piece.piece.count) c.after-rest.ensures))
+pub returns-in-Ok-clause-room : goal.returns-in-Ok-clause-room
+returns-in-Ok-clause-room c =
+    let step : Step (chars c.args.left.text.now) c.args.left.start c.in-Ok.piece = text-step (chars c.args.left.text.now) c.args.c (chars c.args.rest.now) c.args.left.start c.in-Ok.piece c.requires.split c.in-Ok.ensures in
+    left-within c.keep_piece.result c.args.left c.in-Ok.piece step c.requires.room c.keep_piece.ensures.start c.keep_piece.ensures.text
+
+pub returns-in-Ok-clause-taken : goal.returns-in-Ok-clause-taken
+returns-in-Ok-clause-taken c =
+    let step : Step (chars c.args.left.text.now) c.args.left.start c.in-Ok.piece = text-step (chars c.args.left.text.now) c.args.c (chars c.args.rest.now) c.args.left.start c.in-Ok.piece c.requires.split c.in-Ok.ensures in
+    left-tokens c.keep_piece.result c.args.left c.in-Ok.piece c.args.tokens.now c.keep_piece.new.tokens step c.keep_piece.ensures.start c.keep_piece.ensures.text c.keep_piece.ensures.kept

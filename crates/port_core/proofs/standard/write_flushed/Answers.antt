@@ -5,7 +5,8 @@ use Rattle.std.specs.Io.KnownBytes.{Appends}
 use Rattle.port_core.proofs.standard.write_flushed.Goals as goal
 
 -- the first bytes, and then the next ones
-Appends-more : (a b c : Option (List ℕ)) (bytes : List ℕ) (done count : ℕ) → Appends a b (take done bytes) → Appends b c (take count (drop done bytes))
+Appends-more : (a b c : Option (List ℕ)) (bytes : List ℕ) (done count : ℕ)
+    → Appends a b (take done bytes) → Appends b c (take count (drop done bytes))
     → Appends a c (take (done + count) bytes)
 Appends-more None b c bytes done count r s = tt
 Appends-more (Some x) None c bytes done count r s = absurd r

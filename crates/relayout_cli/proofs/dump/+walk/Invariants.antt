@@ -11,8 +11,8 @@ decreases-push_boxes l = 2 * l.levels
 -- the lines so far and those of the rest are those of all
 abbrev pub invariant-push_children-loop-kid : goal.invariant-push_children-loop-kid
 invariant-push_children-loop-kid l = record {
-  told : string_bytes l.reply ++ all_box_lines (all_flat l.width) (pos 0) (pos 0) (nodes_at l.kid-iterator l.doc.root) ≡ string_bytes l.fn.reply ++ all_box_lines (all_flat l.width) (pos 0) (pos 0) (nodes_at l.fn.kids l.doc.root);
-  reach : AllReach l.levels l.kid-iterator l.doc.root;
+  told : string_bytes l.reply ++ all_box_lines (all_flat l.width) (pos 0) (pos 0) (nodes_at l.kid-iterator l.doc.document.root) ≡ string_bytes l.fn.reply ++ all_box_lines (all_flat l.width) (pos 0) (pos 0) (nodes_at l.fn.kids l.doc.document.root);
+  reach : AllReach l.levels l.kid-iterator l.doc.document.root;
 }
 
 abbrev pub decreases-push_children : goal.decreases-push_children

@@ -1,11 +1,15 @@
-use Rattle.std.proofs.Common.{◌≡◌, subst, rules}
-use Rattle.page_model.specs.Document.{Document, parent_of}
-use Rattle.dom_arena.specs.Table.{slot_at, parent_in_slot, tree_in}
-use Rattle.dom_arena.proofs.Readings.{table-parent}
+use Rattle.std.proofs.Common.{◌≡◌, option_map, subst, rules}
+use Rattle.page_model.specs.Document.{parent_of}
+use Rattle.dom_arena.specs.Docs.{Seen}
+use Rattle.dom_arena.specs.Stores.{Kept, slot_by_id}
+use Rattle.dom_arena.specs.Slots.{id_at, target, up_link}
+use Rattle.dom_arena.specs.Views.{kept}
+use Rattle.dom_arena.proofs.Docs.{read-parent}
 use Rattle.dom_arena.proofs.doc.Doc.parent.Goals as goal
 
 pub returns : goal.returns
 returns c =
-    let found : parent_in_slot (slot_at c.self.inside.slots.items c.args.id) ≡ parent_of c.args.id c.args.self.now.root =
-    subst (λ (d : Document). parent_in_slot (slot_at c.self.inside.slots.items c.args.id) ≡ parent_of c.args.id d.root) c.self.view_is (table-parent c.self.inside.slots.items (tree_in c.self.inside.slots.items) c.args.id c.self.invariant.0) in
+    let k : Kept = kept c.self.inside.store in
+    let found : option_map (id_at k.slots) (target (up_link (slot_by_id k c.args.id))) ≡ parent_of c.args.id c.args.self.now.document.root =
+    subst (λ (s : Seen). option_map (id_at k.slots) (target (up_link (slot_by_id k c.args.id))) ≡ parent_of c.args.id s.document.root) c.self.view_is (read-parent k c.self.inside.root c.args.id c.self.invariant) in
     search rules

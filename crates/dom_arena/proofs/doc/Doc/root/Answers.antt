@@ -1,7 +1,8 @@
-use Rattle.std.proofs.Common.{ℕ, ◌<◌, subst}
-use Rattle.page_model.specs.Document.{Document, IsAmong, ids}
+use Rattle.std.proofs.Common.{subst}
+use Rattle.dom_arena.specs.Docs.{Seen, IsDocument}
+use Rattle.dom_arena.specs.Views.{kept}
+use Rattle.dom_arena.proofs.Docs.{doc-facts}
 use Rattle.dom_arena.proofs.doc.Doc.root.Goals as goal
 
-pub returns-clause-numbered : goal.returns-clause-numbered
-returns-clause-numbered c =
-    subst (λ (d : Document). (i : ℕ) → IsAmong i (ids d.root) → i < d.next_id) c.self.view_is c.self.invariant.0.with_ids
+pub returns-clause-facts : goal.returns-clause-facts
+returns-clause-facts c = subst (λ (s : Seen). IsDocument s.document) c.self.view_is (doc-facts (kept c.self.inside.store) c.self.inside.root c.self.invariant)

@@ -1,11 +1,16 @@
-use Rattle.std.proofs.Common.{◌≡◌, subst, rules}
-use Rattle.page_model.specs.Document.{Document, name_at}
-use Rattle.dom_arena.specs.Table.{slot_at, name_in, tree_in}
-use Rattle.dom_arena.proofs.Readings.{table-name}
+use Rattle.std.proofs.Common.{◌≡◌, option_and_then, subst, rules}
+use Rattle.page_model.specs.Document.{name_at}
+use Rattle.dom_arena.specs.Docs.{Seen}
+use Rattle.dom_arena.specs.Stores.{Kept, slot_by_id}
+use Rattle.dom_arena.specs.Slots.{name_in}
+use Rattle.dom_arena.specs.declared.slot.Slot.{Slot}
+use Rattle.dom_arena.specs.Views.{kept}
+use Rattle.dom_arena.proofs.Docs.{read-name}
 use Rattle.dom_arena.proofs.doc.Doc.tag.Goals as goal
 
 pub returns : goal.returns
 returns c =
-    let found : name_in (slot_at c.self.inside.slots.items c.args.id) ≡ name_at c.args.id c.args.self.now.root =
-    subst (λ (d : Document). name_in (slot_at c.self.inside.slots.items c.args.id) ≡ name_at c.args.id d.root) c.self.view_is (table-name c.self.inside.slots.items (tree_in c.self.inside.slots.items) c.args.id c.self.invariant.0) in
+    let k : Kept = kept c.self.inside.store in
+    let found : option_and_then (λ (s : Slot). name_in s.content) (slot_by_id k c.args.id) ≡ name_at c.args.id c.args.self.now.document.root =
+    subst (λ (s : Seen). option_and_then (λ (s : Slot). name_in s.content) (slot_by_id k c.args.id) ≡ name_at c.args.id s.document.root) c.self.view_is (read-name k c.self.inside.root c.args.id c.self.invariant) in
     search rules

@@ -1,0 +1,5 @@
+//! Tests of requests: lines, and what they ask for.
+#![tactic(auto)]
+
+#[cfg(test)]
+mod lines;

@@ -1,0 +1,128 @@
+//! What lines ask for: each kind of answer once.
+use dom_arena::Tree;
+use page_model::Cause;
+use port_core::NoMemory;
+use relayout_requests::{Asked, Edit, Request, ask};
+use request_model::Query;
+use std::alloc::Global;
+use std::process::Abort;
+use std::test::Fail;
+
+/// Checks that a line is refused with this cause.
+fn expect_broken(
+    rt: &impl Abort,
+    alloc: Global,
+    line: &[u8],
+    cause: Cause,
+) -> Result<(), NoMemory> {
+    assert!(rt; line.len() < 1000);
+    let asked = ask(alloc, line)?;
+    assert!(rt; matches!(&asked, Asked::Broken(given) if *given == cause));
+    Ok(())
+}
+
+/// Returns whether a load was asked for at 2 by 3 pixels, with two sheets.
+fn is_load_of_two_sheets(edit: &Edit) -> bool {
+    match edit {
+        Edit::Load {
+            width,
+            height,
+            sheets,
+            ..
+        } => {
+            let two = matches!(sheets, Some(texts) if texts.len() == 2);
+            *width == 2 && *height == 3 && two
+        }
+        _ => false,
+    }
+}
+
+/// Returns whether an insert of a text was asked for, at index 3 of node 2.
+fn is_insert_of_text(edit: &Edit) -> bool {
+    match edit {
+        Edit::Insert {
+            parent,
+            index,
+            tree,
+        } => *parent == 2 && *index == 3 && matches!(tree, Tree::Chars(_)),
+        _ => false,
+    }
+}
+
+/// Returns whether a remove of the node of the greatest number was asked for.
+fn is_remove_of_last(edit: &Edit) -> bool {
+    matches!(edit, Edit::Remove { id } if *id == u64::MAX)
+}
+
+/// Returns what a line asks for.
+fn name_of(asked: &Asked) -> &'static str {
+    match asked {
+        Asked::Nothing => "nothing",
+        Asked::Broken(_) => "broken",
+        Asked::Request(Request::Query(Query::Dump)) => "dump",
+        Asked::Request(Request::Edit(edit)) => name_of_edit(edit),
+    }
+}
+
+/// Returns which of the edits that the rows ask for this is.
+fn name_of_edit(edit: &Edit) -> &'static str {
+    if is_load_of_two_sheets(edit) {
+        "load of two sheets"
+    } else if is_insert_of_text(edit) {
+        "insert of a text"
+    } else if is_remove_of_last(edit) {
+        "remove of the last number"
+    } else {
+        "another edit"
+    }
+}
+
+/// Checks that a line asks for what has this name.
+fn expect_asked(rt: &impl Abort, alloc: Global, line: &[u8], name: &str) -> Result<(), NoMemory> {
+    assert!(rt; line.len() < 1000);
+    let asked = ask(alloc, line)?;
+    assert_eq!(rt; name_of(&asked), name);
+    Ok(())
+}
+
+const LOAD: &[u8] = br#"{"do":"load","height":3,"width":2,"doc":["a"],"sheets":["p{}",""]}"#;
+
+const INSERT: &[u8] = br#"{"do":"insert","tree":"","index":3,"parent":2}"#;
+
+const REMOVE: &[u8] = br#"{"id":18446744073709551615,"do":"remove"}"#;
+
+#[test]
+fn lines_ask(rt: HostRuntime) -> Result<(), Fail> {
+    expect_asked(&rt, rt.alloc(), b" \t\r", "nothing")?;
+    expect_asked(&rt, rt.alloc(), br#" { "d\u006f" : "dump" } "#, "dump")?;
+    expect_asked(&rt, rt.alloc(), LOAD, "load of two sheets")?;
+    expect_asked(&rt, rt.alloc(), INSERT, "insert of a text")?;
+    expect_asked(&rt, rt.alloc(), REMOVE, "remove of the last number")?;
+    Ok(())
+}
+
+#[test]
+fn lines_are_refused(rt: HostRuntime) -> Result<(), Fail> {
+    expect_broken(&rt, rt.alloc(), b"{", Cause::BadJson)?;
+    expect_broken(&rt, rt.alloc(), b"\x0c", Cause::BadJson)?;
+    expect_broken(&rt, rt.alloc(), br#"{"do":"fly"}"#, Cause::BadRequest)?;
+    expect_broken(
+        &rt,
+        rt.alloc(),
+        br#"{"do":"remove","id":1,"x":1}"#,
+        Cause::BadRequest,
+    )?;
+    expect_broken(
+        &rt,
+        rt.alloc(),
+        br#"{"do":"insert","parent":0,"index":0}"#,
+        Cause::BadRequest,
+    )?;
+    expect_broken(
+        &rt,
+        rt.alloc(),
+        br#"{"do":"counts","x":1}"#,
+        Cause::NotBuilt,
+    )?;
+    Ok(())
+}
