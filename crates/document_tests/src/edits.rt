@@ -481,3 +481,42 @@ fn a_copy_is_a_document_of_its_own(rt: HostRuntime) -> Result<(), Fail> {
     assert!(rt; doc.is_live(1));
     Ok(())
 }
+
+const LONG: &str = "a text that is too long to lie in place";
+
+/// Takes a step; where memory runs out, asserts that the page is spelled as before.
+fn take_or_change_nothing(
+    rt: &impl Abort,
+    alloc: Global,
+    doc: &mut Doc,
+    tree: &Tree,
+    step: Step,
+) -> Result<(), Fail> {
+    let before = spell(doc, alloc)?;
+    if let Err(fault) = take(doc, tree, step) {
+        assert_eq!(rt; fault, DocFault::NoMemory);
+        assert_eq!(rt; spell(doc, alloc)?.as_str(), before.as_str());
+    }
+    Ok(())
+}
+
+/// Each allocation can be refused, from outside the gate: `rt try --test --fail-alloc N`.
+#[test]
+fn want_of_memory_changes_nothing(rt: HostRuntime) -> Result<(), Fail> {
+    let mut doc = page(rt.alloc())?;
+    let tree = texts(rt.alloc(), 3, LONG)?;
+    for step in [
+        Step::Insert(1, 1),
+        Step::SetText(3, LONG),
+        Step::SetAttr(5, "k", LONG),
+        Step::SetAttr(2, "k", LONG),
+    ] {
+        take_or_change_nothing(&rt, rt.alloc(), &mut doc, &tree, step)?;
+    }
+    let copy = doc.copy(rt.alloc())?;
+    assert_eq!(rt;
+        spell(&copy, rt.alloc())?.as_str(),
+        spell(&doc, rt.alloc())?.as_str()
+    );
+    Ok(())
+}

@@ -1,0 +1,14 @@
+pub mod Booleans
+pub mod Apart
+pub mod Lists
+pub mod Splits
+pub mod RulesOfItems
+pub mod RuleListOf
+pub mod DroppedRules
+pub mod ConditionsAround
+pub mod DeclarationsOfItems
+pub mod DeclarationListOf
+pub mod Trimmed
+pub mod Declared
+pub mod InOrder
+pub mod SheetTexts

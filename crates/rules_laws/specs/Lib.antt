@@ -1,0 +1,7 @@
+pub mod Parts
+pub mod Texts
+pub mod Accepted
+pub mod Values
+pub mod Order
+pub mod RuleLists
+pub mod DeclarationLists

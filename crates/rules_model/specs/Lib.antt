@@ -1,0 +1,6 @@
+pub mod ComponentLists
+pub mod Declarations
+pub mod Rules
+pub mod PreludeText
+pub mod Sheets
+pub mod inner
