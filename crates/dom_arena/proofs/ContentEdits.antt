@@ -18,7 +18,7 @@ use Rattle.dom_arena.proofs.Changed.{Edited, doc-edited, points-edited, smaller-
 use Rattle.dom_arena.proofs.Answered.{answered, cause-same, is-none, named-by, none-holds, none-same, ok-both}
 use Rattle.dom_arena.proofs.NodeAt.{IsAt, at-or-absent, name-at}
 use Rattle.dom_arena.proofs.AttributeSpots.{spot-count, spot-length, spot-size, spot-size-without}
-use Rattle.page_laws.proofs.ChangedLimits.{dropped-grammar, set-grammar, text-grammar}
+use Rattle.page_laws.proofs.ChangedLimits.{dropped-grammar, set-grammar, text-grammar, not-false}
 use Rattle.dom_arena.proofs.Docs.{doc-facts, read-attributes, read-live, read-name}
 use Rattle.dom_arena.proofs.Written.{body-parts}
 use Rattle.dom_arena.specs.Cells.{body_of}
@@ -242,10 +242,6 @@ attr-causes k x i name value d = elim (at-or-absent k x i d) [
       let same_points : points ≡ points' = points-set k x i name value d p (named-by (name_at i r) h) in
       λ j. first_of (value_causes name value (same_points j) (same_count j))))
 ]
-
-not-false : (b : Bool) → not b ≡ false → b ≡ true
-not-false true h = refl
-not-false false h = absurd (false≢true (sym h))
 
 pub attr-set : (k k' : Kept) (x i : ℕ) (name value : Text) → IsDoc k x → first_of (set_attr_causes i name value (document_in k x)) ≡ None
     → k' ≡ kept_after k (table_at k.table i) (with_attributes (with_attribute name value)) (size_with (slot_by_id k i) name value) → (document_in k' x ≡ document_after_set_attr i name value (document_in k x)) × IsDoc k' x

@@ -4,7 +4,7 @@ ghost use Rattle.dom_arena.specs.Faults.{AnswersBy};
 ghost use Rattle.dom_arena.specs.Found.{AreFound};
 ghost use Rattle.dom_arena.specs.Shape.{shape};
 ghost use Rattle.page_laws.specs.Limits.{KeepsLimits};
-ghost use Rattle.page_model.specs.Document.{Node, child_ids, children_of, document, find, first_child_of, id_of, name_at, next_of, parent_of, prev_of, text_at, value_at};
+ghost use Rattle.page_model.specs.Document.{Node, child_ids, children_of, document, find, first_child_of, id_of, name_at, next_of, node_count, parent_of, prev_of, text_at, value_at};
 ghost use Rattle.page_model.specs.Edits.{document_after_drop_attr, document_after_insert, document_after_move, document_after_remove, document_after_set_attr, document_after_set_text, drop_attr_causes, insert_causes, load_causes, move_causes, remove_causes, set_attr_causes, set_text_causes};
 ghost use Rattle.page_model.specs.Trees.{is_elem};
 ghost use Rattle.page_model.specs.declared.limits.TheConstants.{MAX_NODES};
@@ -88,7 +88,8 @@ impl Doc {
 
     /// Returns how many slots are kept, live and free, in constant time.
     pub fn slots(&self) -> usize
-        ensures { result ≤ MAX_NODES }
+        ensures few { result ≤ MAX_NODES }
+        ensures live { node_count self.now.document.root ≤ result }
     {
         self.store.slots.len()
     }

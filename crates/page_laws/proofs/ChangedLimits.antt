@@ -200,7 +200,7 @@ kept-dropped i name d keeps =
     let less = less-dropped i name d.root in
     limits-changed d i (without_attribute name) (λ cs. cs) keeps (dropped-grammar i name d.root keeps.grammar) (omega (arith, less, keeps.code_points))
 
-not-false : (b : Bool) → not b ≡ false → b ≡ true
+pub not-false : (b : Bool) → not b ≡ false → b ≡ true
 not-false true h = refl
 not-false false h = absurd (false≢true (sym h))
 
