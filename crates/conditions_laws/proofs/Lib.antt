@@ -1,0 +1,4 @@
+pub mod Tables
+pub mod TreeValues
+pub mod FeatureForms
+pub mod WrittenConditions

@@ -1,0 +1,67 @@
+//! Lengths and their values (CSS Values 4, sections 5 and 6; CSS Conditional 5, section 7). The font
+//! sizes are 10 and 20 pixels, the viewport 1,000 by 500, the container 300 by 400.
+ghost use Rattle.conditions_model.specs.inner.Examples.{millionths};
+ghost use Rattle.std.specs.Prelude.{◌≡◌, None, Some, codes, neg_ℤ, pos};
+
+/// Absolute lengths: one exact quotient, truncated towards zero.
+#[tactic(auto, unfolding(css_model::specs::inner::Nesting::levels_of, css_model::specs::inner::Pieces::pieces_after, css_model::specs::inner::Fronts::parts_after))]
+pub fn absolute()
+    ensures px { millionths (codes "1px") ≡ Some (pos 1000000) }
+    ensures pc { millionths (codes "1pc") ≡ Some (pos 16000000) }
+    ensures inch { millionths (codes "1in") ≡ Some (pos 96000000) }
+    ensures pt { millionths (codes "3pt") ≡ Some (pos 4000000) }
+    ensures cm { millionths (codes "2.54cm") ≡ Some (pos 96000000) }
+    ensures mm { millionths (codes "25.4mm") ≡ Some (pos 96000000) }
+    ensures q { millionths (codes "101.6Q") ≡ Some (pos 96000000) }
+    ensures zero { millionths (codes "0") ≡ Some (pos 0) }
+    ensures minus_zero { millionths (codes "-0.0") ≡ Some (pos 0) }
+    ensures truncated_to_zero { millionths (codes "0.0000001") ≡ Some (pos 0) }
+    ensures truncated { millionths (codes "1pt") ≡ Some (pos 1333333) }
+    ensures truncated_towards_zero { millionths (codes "-1pt") ≡ Some (neg_ℤ (pos 1333333)) }
+    ensures small_unit { millionths (codes "0.000001pt") ≡ Some (pos 1) }
+    ensures in_capitals { millionths (codes "1PX") ≡ Some (pos 1000000) }
+    ensures escape { millionths (codes "1\\70x") ≡ Some (pos 1000000) }
+    ensures negative { millionths (codes "-1px") ≡ Some (neg_ℤ (pos 1000000)) }
+    ensures clamped { millionths (codes "1e9in") ≡ Some (pos 1000000000000000) }
+    ensures clamped_below { millionths (codes "-1e9in") ≡ Some (neg_ℤ (pos 1000000000000000)) }
+{}
+
+/// Relative lengths.
+#[tactic(auto, unfolding(css_model::specs::inner::Nesting::levels_of, css_model::specs::inner::Pieces::pieces_after, css_model::specs::inner::Fronts::parts_after))]
+pub fn relative()
+    ensures em { millionths (codes "1.5em") ≡ Some (pos 15000000) }
+    ensures ex { millionths (codes "1ex") ≡ Some (pos 5000000) }
+    ensures ch { millionths (codes "1ch") ≡ Some (pos 5000000) }
+    ensures rem { millionths (codes "1rem") ≡ Some (pos 20000000) }
+    ensures vw { millionths (codes "1vw") ≡ Some (pos 10000000) }
+    ensures vi { millionths (codes "1vi") ≡ Some (pos 10000000) }
+    ensures svw { millionths (codes "1svw") ≡ Some (pos 10000000) }
+    ensures lvw { millionths (codes "1lvw") ≡ Some (pos 10000000) }
+    ensures dvw { millionths (codes "1dvw") ≡ Some (pos 10000000) }
+    ensures vh { millionths (codes "1vh") ≡ Some (pos 5000000) }
+    ensures vb { millionths (codes "1vb") ≡ Some (pos 5000000) }
+    ensures svh { millionths (codes "1svh") ≡ Some (pos 5000000) }
+    ensures lvh { millionths (codes "1lvh") ≡ Some (pos 5000000) }
+    ensures dvh { millionths (codes "1dvh") ≡ Some (pos 5000000) }
+    ensures vmin { millionths (codes "1vmin") ≡ Some (pos 5000000) }
+    ensures vmax { millionths (codes "1vmax") ≡ Some (pos 10000000) }
+    ensures cqw { millionths (codes "1cqw") ≡ Some (pos 3000000) }
+    ensures cqi { millionths (codes "1cqi") ≡ Some (pos 3000000) }
+    ensures cqh { millionths (codes "1cqh") ≡ Some (pos 4000000) }
+    ensures cqb { millionths (codes "1cqb") ≡ Some (pos 4000000) }
+    ensures cqmin { millionths (codes "1cqmin") ≡ Some (pos 3000000) }
+    ensures cqmax { millionths (codes "1cqmax") ≡ Some (pos 4000000) }
+{}
+
+/// What is no length.
+#[tactic(auto, unfolding(css_model::specs::inner::Nesting::levels_of, css_model::specs::inner::Pieces::pieces_after, css_model::specs::inner::Fronts::parts_after))]
+pub fn no_length()
+    ensures a_number { millionths (codes "1") ≡ None }
+    ensures a_percentage { millionths (codes "1%") ≡ None }
+    ensures zero_percent { millionths (codes "0%") ≡ None }
+    ensures an_angle { millionths (codes "1deg") ≡ None }
+    ensures a_longer_unit { millionths (codes "1pxx") ≡ None }
+    ensures a_word { millionths (codes "px") ≡ None }
+    ensures a_block { millionths (codes "(1px)") ≡ None }
+    ensures nothing { millionths (codes "") ≡ None }
+{}

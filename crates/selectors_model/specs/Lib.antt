@@ -1,0 +1,11 @@
+pub mod Selectors
+pub mod TokenTypes
+pub mod AnPlusBs
+pub mod AttributeSelectors
+pub mod PseudoNames
+pub mod Grammar
+pub mod Elements
+pub mod Values
+pub mod Matching
+pub mod Specificity
+pub mod inner
