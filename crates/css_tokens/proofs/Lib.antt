@@ -9,6 +9,7 @@ pub mod OpenBrackets
 pub mod HexValues
 pub mod PartSteps
 pub mod CommentSteps
+pub mod AsciiWords
 pub mod UrlNames
 pub mod PieceEnds
 pub mod PunctuationPieces

@@ -1,5 +1,9 @@
-use Rattle.css_tokens.proofs.UrlNames.{url-name-is}
+use Rattle.std.proofs.Common.{arith}
+use Rattle.std.specs.Prelude.{codes}
+use Rattle.css_tokens.proofs.AsciiWords.{word-is}
 use Rattle.css_tokens.proofs.names.is_url_name.Goals as goal
 
 pub returns : goal.returns
-returns c = url-name-is c.eq_ignore_ascii_case.result c.as_str.result.now c.args.name.now c.eq_ignore_ascii_case.ensures.test c.as_str.ensures.characters c.as_str.ensures.bytes
+returns c =
+    word-is (codes "url") c.eq_ignore_ascii_case.result c.as_str.result.now c.args.name.now (omega arith, (omega arith, (omega arith, tt)))
+    c.eq_ignore_ascii_case.ensures.test c.as_str.ensures.characters c.as_str.ensures.bytes
