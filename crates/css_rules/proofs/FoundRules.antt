@@ -9,8 +9,8 @@ use Rattle.std.specs.Option.{is_some}
 use Rattle.css_model.specs.Components.{Component, preserved, simple_block, function_block, Components, no_components, component}
 use Rattle.css_tokens.specs.Nested.{components_view}
 use Rattle.rules_model.specs.declared.conditional_rule.ConditionalRule.{ConditionalRule}
-use Rattle.rules_model.specs.ComponentLists.{is_whitespace, at_keyword_of, is_curly_block, contents_of, before, trimmed, without_front_whitespace, without_end_whitespace}
-use Rattle.rules_model.specs.Declarations.{ends_at_rule, declarations_of}
+use Rattle.rules_model.specs.ComponentLists.{ends_at_rule, is_whitespace, at_keyword_of, is_curly_block, contents_of, before, trimmed, without_front_whitespace, without_end_whitespace}
+use Rattle.rules_model.specs.Declarations.{declarations_of}
 use Rattle.rules_model.specs.Rules as model
 use Rattle.rules_model.specs.Rules.{Condition, condition_of, conditions_inside, conditional_rule_of, is_top_level, is_between_rules, style_rule, rules_in, rules_from_at_rule, rules_in_block, rules_from_prelude, rules_of}
 use Rattle.rules_model.specs.Sheets.{components_of, style_rules_of}

@@ -10,8 +10,8 @@ use Rattle.css_rules.specs.declared.declaration.Declaration as code
 use Rattle.css_rules.specs.Views.{declaration_view, declarations_view}
 use Rattle.std.proofs.lemmas.List.{map-append}
 use Rattle.css_tokens.specs.Nested.{components_view}
-use Rattle.rules_model.specs.ComponentLists.{is_token, is_whitespace, is_whitespace_type, is_semicolon, at_keyword_of, before, without_front_whitespace, without_end_whitespace, trimmed}
-use Rattle.rules_model.specs.Declarations.{is_exclamation_type, is_important_mark, has_important_mark, before_important_mark, declaration_of, with_declaration, ends_at_rule, is_between_declarations, declarations_of, declarations_after_at_rule, declarations_after_semicolon}
+use Rattle.rules_model.specs.ComponentLists.{ends_at_rule, is_token, is_whitespace, is_whitespace_type, is_semicolon, at_keyword_of, before, without_front_whitespace, without_end_whitespace, trimmed}
+use Rattle.rules_model.specs.Declarations.{is_exclamation_type, is_important_mark, has_important_mark, before_important_mark, declaration_of, with_declaration, is_between_declarations, declarations_of, declarations_after_at_rule, declarations_after_semicolon}
 use Rattle.css_rules.specs.inner.Reading.{count, begins_with, after}
 use Rattle.css_rules.proofs.Parts.{front-before, white-semicolon}
 

@@ -5,10 +5,10 @@ ghost use Rattle.css_rules.specs.inner.Found.{IsInside, Adds, Takes, around_of, 
 ghost use Rattle.css_rules.specs.inner.Reading.{left_of, after, end_of};
 ghost use Rattle.css_tokens.specs.Nested.{component_view, components_view};
 ghost use Rattle.rules_model.specs.ComponentLists as lists;
-ghost use Rattle.rules_model.specs.Declarations.{ends_at_rule};
 ghost use Rattle.rules_model.specs.Rules as rules;
 ghost use Rattle.std.specs.Option.{is_none};
 ghost use Rattle.std.specs.Prelude.{◌≡◌, [], ◌∷◌, ◌++◌, OnOk, IfOk, Some, List, false};
+ghost use Rattle.rules_model.specs.ComponentLists.{ends_at_rule};
 
 use crate::ahead::{Ahead, End};
 use crate::classes::{

@@ -3,8 +3,8 @@ use Rattle.std.specs.Prelude.{◌≡◌, ℕ, ◌≤◌, ◌<◌, List, [], ◌�
 use Rattle.std.specs.Option.{is_none}
 use Rattle.css_model.specs.Components.{Component, Components}
 use Rattle.rules_model.specs.declared.conditional_rule.ConditionalRule.{ConditionalRule}
-use Rattle.rules_model.specs.ComponentLists.{contents_of, before, trimmed}
-use Rattle.rules_model.specs.Declarations.{declarations_of, ends_at_rule}
+use Rattle.rules_model.specs.ComponentLists.{ends_at_rule, contents_of, before, trimmed}
+use Rattle.rules_model.specs.Declarations.{declarations_of}
 use Rattle.rules_model.specs.Rules as model
 use Rattle.rules_model.specs.Rules.{Condition, is_top_level, style_rule, rules_in, rules_in_block}
 use Rattle.css_rules.specs.declared.rules.Found.{Found}

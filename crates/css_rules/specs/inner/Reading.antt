@@ -4,8 +4,8 @@ use Rattle.std.specs.Option.{MatchOption}
 use Rattle.css_model.specs.Components.{Component, preserved, simple_block, function_block, Components, no_components, component}
 use Rattle.css_tokens.specs.declared.component.Component as code
 use Rattle.css_tokens.specs.Nested.{component_view, components_view}
-use Rattle.rules_model.specs.ComponentLists.{is_token, is_semicolon, is_curly_block, are_whitespace}
-use Rattle.rules_model.specs.Declarations.{is_important_type, has_important_mark, before_important_mark, ends_at_rule}
+use Rattle.rules_model.specs.ComponentLists.{ends_at_rule, is_token, is_semicolon, is_curly_block, are_whitespace}
+use Rattle.rules_model.specs.Declarations.{is_important_type, has_important_mark, before_important_mark}
 use Rattle.css_rules.specs.declared.ahead.Ahead.{Ahead}
 use Rattle.css_rules.specs.declared.ahead.End.{End}
 use Rattle.css_rules.specs.declared.ahead.End.TheVariants as end

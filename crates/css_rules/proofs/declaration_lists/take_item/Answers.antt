@@ -1,8 +1,8 @@
 use Rattle.std.proofs.Common.{◌∙◌, ap, sym, ◌++◌, option_map}
 use Rattle.std.proofs.lemmas.Result.{on_ok_weaker}
-use Rattle.rules_model.specs.ComponentLists.{is_semicolon}
+use Rattle.rules_model.specs.ComponentLists.{ends_at_rule, is_semicolon}
 use Rattle.css_tokens.specs.Nested.{component_view}
-use Rattle.rules_model.specs.Declarations.{ends_at_rule, declarations_of}
+use Rattle.rules_model.specs.Declarations.{declarations_of}
 use Rattle.css_rules.specs.Views.{declaration_view, declarations_view}
 use Rattle.css_rules.specs.inner.Reading.{left_of}
 use Rattle.css_rules.proofs.Values.{count-after, declarations-at_rule, neither-between, taken-some, taken-none}

@@ -3,8 +3,7 @@ use Rattle.std.proofs.Common.{rules, ◌≡◌, ◌∙◌, ap, sym, refl, subst,
 use Rattle.std.proofs.lemmas.Result.{on_ok_weaker}
 use Rattle.css_model.specs.inner.Nesting.{followed}
 use Rattle.css_tokens.specs.Nested.{component_view, components_view}
-use Rattle.rules_model.specs.ComponentLists.{before}
-use Rattle.rules_model.specs.Declarations.{ends_at_rule}
+use Rattle.rules_model.specs.ComponentLists.{ends_at_rule, before}
 use Rattle.rules_model.specs.Rules.{Condition}
 use Rattle.css_rules.specs.declared.rules.Found.{Found}
 use Rattle.css_rules.specs.inner.Found.{around_of, IsInside, conditions_with}
