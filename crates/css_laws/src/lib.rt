@@ -1,6 +1,6 @@
 //! Laws of the definitions of `css_model`: each is the contract of a function that does nothing.
 //!
-//! Nothing builds on this crate.
+//! Above it only `css_rules` builds on this crate, by two lemmas.
 #![tactic(auto)]
 
 pub mod components;
