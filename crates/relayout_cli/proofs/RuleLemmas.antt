@@ -1,6 +1,5 @@
 -- How the lines of rules are put together.
-use Rattle.std.proofs.Common.{◌≡◌, ◌∙◌, ap, sym, refl, ℕ, zero, suc, ◌<◌, ◌≤◌, ◌+◌, List, [], ◌∷◌, ◌++◌, Option, Some, None, length, map, drop, fold, codes, flat_map, get_or, drop-cons, add-one, arith, append_assoc, take}
-use Rattle.std.specs.Fmt.{decimal}
+use Rattle.std.proofs.Common.{◌≡◌, ◌∙◌, ap, sym, refl, ℕ, zero, suc, ◌<◌, ◌≤◌, ◌+◌, List, [], ◌∷◌, ◌++◌, Option, Some, None, length, map, drop, flat_map, get_or, drop-cons, add-one, arith, append_assoc, take}
 use Rattle.std.proofs.lemmas.Grind.{flat_map-append}
 use Rattle.std.proofs.lemmas.List.{map-append, take_more}
 use Rattle.std.proofs.lemmas.List.Sums.{fold_push}
@@ -15,7 +14,7 @@ use Rattle.css_rules.specs.declared.sheet.Condition.{Condition}
 use Rattle.css_rules.specs.declared.sheet.StyleRule.{StyleRule}
 use Rattle.css_rules.specs.declared.sheet.Sheet.{Sheet}
 use Rattle.css_rules.specs.Views.{declaration_view, condition_view, conditions_at, with_condition, condition_lists, rule_view, sheet_view}
-use Rattle.reply_model.specs.Spelling.{in_quotes, field, end_line}
+use Rattle.reply_model.specs.Spelling.{in_quotes}
 use Rattle.reply_model.specs.RulesText.{rule_line, rule_lines}
 use Rattle.relayout_cli.specs.Sheets.{kept_rules}
 use Rattle.relayout_cli.specs.inner.RuleLines.{tokens_in_quotes, component_in_quotes, components_in_quotes, condition_counts, count_at, kept_line, lines_of_all, AreAtMost}

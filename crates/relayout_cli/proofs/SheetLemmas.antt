@@ -1,11 +1,10 @@
 -- The style sheets of a page, by their texts and by their rules.
-use Rattle.std.proofs.Common.{◌≡◌, ◌∙◌, ap, sym, refl, ℕ, zero, suc, ◌<◌, ◌+◌, ◌==◌, List, [], ◌∷◌, ◌++◌, Bool, true, false, not, length, map, take, drop, slice_set, arith, eqb-true, inl, inr}
+use Rattle.std.proofs.Common.{◌≡◌, ◌∙◌, ap, sym, refl, ℕ, zero, suc, ◌<◌, ◌==◌, List, [], ◌∷◌, ◌++◌, Bool, true, false, not, length, map, take, drop, slice_set, arith, eqb-true, inl, inr}
 use Rattle.std.proofs.lemmas.Bool.{cases_Bool}
 use Rattle.std.specs.List.{list_any, remove}
 use Rattle.std.proofs.lemmas.List.{map-append, take-map, drop-map}
 use Rattle.rules_model.specs.Rules.{StyleRule}
 use Rattle.rules_model.specs.Sheets.{style_rules_of}
-use Rattle.page_model.specs.Trees.{Text}
 use Rattle.request_model.specs.States.{is_empty, has_style_rule, sheets_with, sheets_without}
 use Rattle.css_rules.specs.declared.sheet.Sheet.{Sheet}
 use Rattle.css_rules.specs.Views.{sheet_view}

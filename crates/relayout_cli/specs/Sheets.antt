@@ -21,7 +21,8 @@ text_rules sheets = map (λ (s : Sheet). style_rules_of s.text) sheets
 
 -- the rules that are kept are those of the texts: whatever is printed of them is printed of those too
 abbrev pub AreParsed : List Sheet → Type 0
-AreParsed sheets = (print : List (List StyleRule) → List ℕ) → print (kept_rules sheets) ≡ print (text_rules sheets)
+AreParsed sheets = (print : List (List StyleRule) → List ℕ)
+    → print (kept_rules sheets) ≡ print (text_rules sheets)
 
 -- a sheet of these rules has one
 abbrev pub has_rules : List StyleRule → Bool

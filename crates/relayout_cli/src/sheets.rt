@@ -108,7 +108,8 @@ fn set_sheet(sheets: &mut Seq<Sheet>, at: usize, sheet: Sheet) -> Result<(), Ref
     requires { at ≤ length sheets.old }
     ensures sheets { OnOk result
         (texts_of sheets.new ≡ sheets_after at (Some sheet.text) (texts_of sheets.old)) }
-    ensures parsed { sheet_view sheet ≡ style_rules_of sheet.text → AreParsed sheets.old → AreParsed sheets.new }
+    ensures parsed { sheet_view sheet ≡ style_rules_of sheet.text
+        → AreParsed sheets.old → AreParsed sheets.new }
     ensures memory { IfErr result (λ r. r ≡ no_memory) }
     ensures kept { OnErr result (sheets.new ≡ sheets.old) }
 {

@@ -2,7 +2,7 @@
 use Rattle.std.specs.Prelude.{ℕ, suc, ◌≤◌, List, [], ◌∷◌, ◌++◌, codes, flat_map, map, length, Option, Some, None, get_or}
 use Rattle.std.specs.Fmt.{decimal}
 use Rattle.css_model.specs.declared.token.Token.{Token}
-use Rattle.css_model.specs.Components.{Components, tokens_of, all_tokens_of, close_tokens}
+use Rattle.css_model.specs.Components.{tokens_of, all_tokens_of}
 use Rattle.css_tokens.specs.declared.component.Component.{Component}
 use Rattle.css_tokens.specs.Nested.{component_view, components_view}
 use Rattle.rules_model.specs.PreludeText.{token_text, prelude_text}
@@ -47,7 +47,8 @@ AreAtMost n (count ∷ counts) = (count ≤ n) × AreAtMost n counts
 abbrev pub kept_line : ℕ → ℕ → ℕ → StyleRule → List ℕ
 kept_line sheet place conditions rule =
     codes "rule" ++ (field (decimal sheet) ++ (field (decimal place) ++ (field (decimal conditions)
-    ++ (field (decimal (length rule.declarations)) ++ (field (quoted (prelude_text (components_view rule.prelude))) ++ end_line)))))
+    ++ (field (decimal (length rule.declarations))
+    ++ (field (quoted (prelude_text (components_view rule.prelude))) ++ end_line)))))
 
 -- the lines of sheets of these rules, from a number on
 abbrev pub lines_of_all : ℕ → List (List model.StyleRule) → List ℕ

@@ -1,4 +1,4 @@
-use Rattle.std.proofs.Common.{◌≡◌, ◌∙◌, ap, sym, subst, ◌++◌, ◌+◌, ◌≤◌, List, ℕ, arith, rules, Fits, w64}
+use Rattle.std.proofs.Common.{◌≡◌, ◌∙◌, ap, sym, subst, ◌+◌, ◌≤◌, List, ℕ, arith, rules}
 use Rattle.relayout_cli.specs.inner.RuleLines.{count_at, AreAtMost}
 use Rattle.relayout_cli.proofs.RuleLemmas.{counts-next, count-at-most, at-most-push}
 use Rattle.relayout_cli.proofs.rules.count_conditions.Goals as goal
@@ -6,7 +6,7 @@ use Rattle.relayout_cli.proofs.rules.count_conditions.Goals as goal
 pub overflow_add-around : goal.overflow_add-around
 overflow_add-around c =
     let few : c.count_at-around.result ≤ c.loop-condition.condition-index =
-        rw (c.count_at-around.ensures, c.as_slice.ensures) (count-at-most c.loop-condition.condition-index c.loop-condition.counts c.condition-item.result.around c.loop-condition.invariant.few) in
+    rw (c.count_at-around.ensures, c.as_slice.ensures) (count-at-most c.loop-condition.condition-index c.loop-condition.counts c.condition-item.result.around c.loop-condition.invariant.few) in
     search (rules, few)
 
 pub loop-condition-preserved : goal.loop-condition-preserved

@@ -1,6 +1,4 @@
-use Rattle.std.proofs.Common.{◌∙◌, ap, not, ◌==◌, length}
 use Rattle.css_rules.specs.Views.{condition_lists, rule_view}
-use Rattle.css_rules.specs.declared.sheet.StyleRule.{StyleRule}
 use Rattle.relayout_cli.proofs.SheetLemmas.{has-mapped}
 use Rattle.relayout_cli.proofs.sheets.has_rules.Goals as goal
 

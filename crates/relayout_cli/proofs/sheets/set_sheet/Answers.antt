@@ -1,5 +1,4 @@
-use Rattle.std.proofs.Common.{◌∙◌, ap, sym, ◌<◌, subst, List, arith, refl}
-use Rattle.css_rules.specs.declared.sheet.Sheet.{Sheet}
+use Rattle.std.proofs.Common.{◌∙◌, ap, sym, subst, arith}
 use Rattle.relayout_cli.specs.Sheets.{texts_of, AreParsed}
 use Rattle.relayout_cli.proofs.SheetLemmas.{texts-set, texts-push, parsed-set, parsed-push}
 use Rattle.relayout_cli.proofs.sheets.set_sheet.Goals as goal

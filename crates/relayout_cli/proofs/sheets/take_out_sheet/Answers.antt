@@ -1,5 +1,4 @@
-use Rattle.std.proofs.Common.{◌∙◌, ap, sym, subst, List}
-use Rattle.css_rules.specs.declared.sheet.Sheet.{Sheet}
+use Rattle.std.proofs.Common.{◌∙◌, ap, sym, subst}
 use Rattle.relayout_cli.specs.Sheets.{texts_of, AreParsed}
 use Rattle.relayout_cli.proofs.SheetLemmas.{texts-remove, parsed-remove}
 use Rattle.relayout_cli.proofs.sheets.take_out_sheet.Goals as goal
