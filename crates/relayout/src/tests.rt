@@ -3,6 +3,7 @@ mod endings;
 mod limits;
 mod order;
 mod replies;
+mod sheets;
 
 use port_core::{MemSink, MemSource, NoMemory, Steps};
 use relayout_cli::{Status, run};

@@ -4,4 +4,6 @@ pub mod DumpLemmas
 pub mod CutLemmas
 pub mod ServeLemmas
 pub mod NumberLemmas
+pub mod SheetLemmas
+pub mod RuleLemmas
 pub mod ResponseLemmas

@@ -1,6 +1,7 @@
 -- How what a line asks for is answered.
 use Rattle.std.proofs.Common.{◌≡◌, ◌∙◌, sym, ap, subst, refl, ℕ, zero, suc, List, [], ◌∷◌, ◌++◌, Bool, true, false, not, inl, inr, Option, Some, None, Result, Ok, Err, OnOk, is_none}
 use Rattle.std.proofs.lemmas.Bool.{false≢true}
+use Rattle.std.specs.List.{list_any}
 use Rattle.stream_model.specs.Ledger.{Log}
 use Rattle.page_model.specs.Pages.{State}
 use Rattle.page_model.specs.Trees.{Tree, elem, characters, is_elem}
@@ -9,19 +10,20 @@ use Rattle.page_model.specs.declared.cause.Cause.{Cause}
 use Rattle.page_model.specs.declared.cause.Cause.TheVariants.{NotBuilt, NotLoaded}
 use Rattle.page_model.specs.declared.refusal.Refusal.{Refusal}
 use Rattle.request_model.specs.declared.query.Query.{Query}
-use Rattle.request_model.specs.declared.query.Query.TheVariants.{Dump}
+use Rattle.request_model.specs.declared.query.Query.TheVariants.{Dump, Rules}
 use Rattle.request_model.specs.declared.accepted.Accepted.{Accepted}
-use Rattle.request_model.specs.Requests.{Edit, load, insert, remove, Request, edit, query, Asked, nothing, broken, request}
-use Rattle.request_model.specs.States.{Answer, silent, refused, accepted, answer_to, answer_by, refusal_of, form_causes, request_causes, edit_causes, state_after_edit, accepted_by, brings_tree, most_logs, logs_of_refused, is_plain}
+use Rattle.request_model.specs.Requests.{Edit, load, insert, remove, sheet, Request, edit, query, Asked, nothing, broken, request}
+use Rattle.request_model.specs.States.{Answer, silent, refused, accepted, answer_to, answer_by, refusal_of, form_causes, request_causes, edit_causes, state_after_edit, accepted_by, brings_tree, most_logs, logs_of_refused, is_plain, has_style_rule}
 use Rattle.layout_model.specs.Setting.{Setting}
-use Rattle.reply_model.specs.Spelling.{error_line}
+use Rattle.reply_model.specs.Spelling.{error_line, ok_line}
+use Rattle.reply_model.specs.RulesText.{rules_text}
 use Rattle.reply_model.specs.Replies.{Course, IsTurn, IsAnswered, IsQueryReply, AreLogs, edit_text}
 use Rattle.dom_arena.specs.Faults.{AnswersBy, refusal_of_fault, cause_in}
 use Rattle.dom_arena.specs.declared.fault.DocFault.{DocFault}
 use Rattle.relayout_cli.specs.Pages.{page_view, state_view}
 use Rattle.relayout_cli.specs.declared.page.Page.{Page as KeptPage}
 use Rattle.relayout_cli.specs.inner.Turns.{IsResponse, empty_logs}
-use Rattle.relayout_cli.specs.inner.Dumps.{IsDumpOf}
+use Rattle.relayout_cli.specs.inner.Dumps.{IsDumpOf, IsDumpBy, IsDumpReply}
 use Rattle.relayout_cli.specs.inner.Edits.{HasRoot}
 
 -- ---- causes
@@ -37,19 +39,15 @@ first_of-after ((true, d) ∷ cs) ds h = absurd (cc)
 first_of-after ((false, d) ∷ cs) ds h = first_of-after cs ds h
 
 -- a form that is not built is refused as such
-two-not_built : (a b : Bool) → is_none (first_of ((a, NotBuilt) ∷ (b, NotBuilt) ∷ [])) ≡ false → first_of ((a, NotBuilt) ∷ (b, NotBuilt) ∷ []) ≡ Some NotBuilt
-two-not_built true b h = refl
-two-not_built false true h = refl
-two-not_built false false h = absurd (false≢true (sym h))
-
 one-not_built : (a : Bool) → is_none (first_of ((a, NotBuilt) ∷ [])) ≡ false → first_of ((a, NotBuilt) ∷ []) ≡ Some NotBuilt
 one-not_built true h = refl
 one-not_built false h = absurd (false≢true (sym h))
 
 forms-not_built : (q : Request) → is_none (first_of (form_causes q)) ≡ false → first_of (form_causes q) ≡ Some NotBuilt
-forms-not_built (edit (load width height doc sheets)) h = two-not_built _ _ h
+forms-not_built (edit (load width height doc sheets)) h = one-not_built _ h
 forms-not_built (edit (insert parent index new)) h = one-not_built _ h
 forms-not_built (edit (remove id)) h = absurd (false≢true (sym h))
+forms-not_built (edit (sheet at css)) h = absurd (false≢true (sym h))
 forms-not_built (query q) h = absurd (false≢true (sym h))
 
 pub refusal-not_built : (s : State) (q : Request) → is_none (first_of (form_causes q)) ≡ false → refusal_of s q ≡ Some NotBuilt
@@ -68,15 +66,15 @@ pub forms-built : (q : Request) → is_none (first_of (form_causes q)) ≡ true 
 forms-built q h = none-is_none (first_of (form_causes q)) h
 
 -- the document of a load whose form is built is an element
-plain-root : (a : Bool) (doc : Tree) → first_of ((a, NotBuilt) ∷ (not (is_plain doc), NotBuilt) ∷ []) ≡ None → is_elem doc ≡ true
-plain-root a (elem name attributes kids) h = refl
-plain-root true (characters text) h = absurd (cc)
-plain-root false (characters text) h = absurd (cc)
+plain-root : (doc : Tree) → first_of ((not (is_plain doc), NotBuilt) ∷ []) ≡ None → is_elem doc ≡ true
+plain-root (elem name attributes kids) h = refl
+plain-root (characters text) h = absurd (cc)
 
 pub built-root : (e : Edit) → first_of (form_causes (edit e)) ≡ None → HasRoot e
-built-root (load width height doc sheets) h = plain-root _ doc h
+built-root (load width height doc sheets) h = plain-root doc h
 built-root (insert parent index new) h = tt
 built-root (remove id) h = tt
+built-root (sheet at css) h = tt
 
 -- a document's fault is a refusal by the causes of its call
 by-cause : (causes : Causes) (o : Option Cause) → first_of causes ≡ o → IsFirstCause causes o
@@ -107,6 +105,7 @@ refused-most nothing = refl
 refused-most (broken c) = refl
 refused-most (request (edit e)) = refl
 refused-most (request (query Dump)) = refl
+refused-most (request (query Rules)) = refl
 
 pub response-silent : (page : Option KeptPage) (reply : List ℕ) → reply ≡ [] → IsResponse nothing [] reply page page
 response-silent page reply e = λ setting from at. (from, at-turn setting from from (state_view page) nothing [] reply silent at refl (refl, e, refl), at)
@@ -140,13 +139,32 @@ response-edit page page' e reply built allowed after told = λ setting from at. 
   refl,
 )
 
-pub response-dump : (page : KeptPage) (reply : List ℕ) → ((setting : Setting) → IsDumpOf setting (page_view page) reply)
+-- one cause alone
+one-holds : (b : Bool) (c : Cause) → b ≡ true → first_of ((b, c) ∷ []) ≡ Some c
+one-holds b c h = rw h refl
+
+one-fails : (b : Bool) (c : Cause) → b ≡ false → first_of ((b, c) ∷ []) ≡ None
+one-fails b c h = rw h refl
+
+-- a dump, by whether a sheet has a style rule
+response-dump : (page : KeptPage) (reply : List ℕ) (b : Bool) → list_any has_style_rule ((page_view page).sheets) ≡ b → IsDumpBy b (page_view page) reply
     → IsResponse (request (query Dump)) (empty_logs (most_logs (request (query Dump)))) reply (Some page) (Some page)
-response-dump page reply dump = λ setting from at. (
+response-dump page reply true is h = response-cause (Some page) (query Dump) NotBuilt reply refl (one-holds _ NotBuilt is) h
+response-dump page reply false is h = λ setting from at. (
   from,
   at-turn setting from from (Some (page_view page)) (request (query Dump)) [] reply (accepted (query Dump)) at
-      (ap (answer_by (query Dump)) (refusal-built (Some (page_view page)) (query Dump) refl))
-      (subst (λ (s : State). IsQueryReply s setting from Dump [] reply) (sym at) ((dump setting).0, (dump setting).1, refl, (dump setting).2), refl),
+      (ap (answer_by (query Dump)) (refusal-built (Some (page_view page)) (query Dump) refl ∙ one-fails _ NotBuilt is))
+      (subst (λ (s : State). IsQueryReply s setting from Dump [] reply) (sym at) ((h setting).0, (h setting).1, refl, (h setting).2), refl),
+  at,
+)
+
+response-rules : (page : KeptPage) (reply : List ℕ) → reply ≡ rules_text ((page_view page).sheets) ++ ok_line
+    → IsResponse (request (query Rules)) (empty_logs (most_logs (request (query Rules)))) reply (Some page) (Some page)
+response-rules page reply told = λ setting from at. (
+  from,
+  at-turn setting from from (Some (page_view page)) (request (query Rules)) [] reply (accepted (query Rules)) at
+      (ap (answer_by (query Rules)) (refusal-built (Some (page_view page)) (query Rules) refl))
+      (subst (λ (s : State). IsQueryReply s setting from Rules [] reply) (sym at) (refl, told), refl),
   at,
 )
 
@@ -176,14 +194,35 @@ pub OnOk-broken : {T E : Type 0} (r : Result T E) (page : Option KeptPage) (c : 
 OnOk-broken (Ok x) page c old new line empty = response-refused page (broken c) c new refl (line ∙ ap (λ (front : List ℕ). front ++ error_line c) empty)
 OnOk-broken (Err x) page c old new line empty = tt
 
-pub OnOk-dumped : {T E : Type 0} (r : Result T E) (state : Option KeptPage) (page : KeptPage) (q : Query) (new : List ℕ) → state ≡ Some page
-    → OnOk r ((setting : Setting) → IsDumpOf setting (page_view page) new) → OnOk r (IsResponse (request (query q)) (empty_logs (most_logs (request (query q)))) new state state)
-OnOk-dumped (Ok x) state page Dump new is dump = subst (λ (s : Option KeptPage). IsResponse (request (query Dump)) [] new s s) (sym is) (response-dump page new dump)
-OnOk-dumped (Err x) state page q new is dump = tt
+pub OnOk-dumped : {T E : Type 0} (r : Result T E) (state : Option KeptPage) (page : KeptPage) (new : List ℕ) → state ≡ Some page
+    → OnOk r (IsDumpReply (page_view page) new) → OnOk r (IsResponse (request (query Dump)) (empty_logs (most_logs (request (query Dump)))) new state state)
+OnOk-dumped (Ok x) state page new is dump = subst (λ (s : Option KeptPage). IsResponse (request (query Dump)) [] new s s) (sym is) (response-dump page new _ refl dump)
+OnOk-dumped (Err x) state page new is dump = tt
+
+pub OnOk-rules : {T E : Type 0} (r : Result T E) (state : Option KeptPage) (page : KeptPage) (old new : List ℕ) → state ≡ Some page
+    → OnOk r (new ≡ old ++ (rules_text ((page_view page).sheets) ++ ok_line)) → old ≡ []
+    → OnOk r (IsResponse (request (query Rules)) (empty_logs (most_logs (request (query Rules)))) new state state)
+OnOk-rules (Ok x) state page old new is told empty =
+    subst (λ (s : Option KeptPage). IsResponse (request (query Rules)) [] new s s) (sym is)
+    (response-rules page new (told ∙ ap (λ (front : List ℕ). front ++ (rules_text ((page_view page).sheets) ++ ok_line)) empty))
+OnOk-rules (Err x) state page old new is told empty = tt
+
+-- a dump by whether a sheet has a style rule, as the code asks it
+pub OnOk-refused_dump : {T E : Type 0} (r : Result T E) (page : KeptPage) (b : Bool) (old new : List ℕ) → b ≡ list_any has_style_rule ((page_view page).sheets) → b ≡ true
+    → OnOk r (new ≡ old ++ error_line NotBuilt) → old ≡ [] → OnOk r (IsDumpReply (page_view page) new)
+OnOk-refused_dump (Ok x) page b old new is holds line empty =
+    subst (λ (b : Bool). IsDumpBy b (page_view page) new) (sym holds ∙ is) (line ∙ ap (λ (front : List ℕ). front ++ error_line NotBuilt) empty)
+OnOk-refused_dump (Err x) page b old new is holds line empty = tt
+
+pub OnOk-built_dump : {T E : Type 0} (r : Result T E) (page : KeptPage) (b : Bool) (new : List ℕ) → b ≡ list_any has_style_rule ((page_view page).sheets) → b ≡ false
+    → OnOk r ((setting : Setting) → IsDumpOf setting (page_view page) new) → OnOk r (IsDumpReply (page_view page) new)
+OnOk-built_dump (Ok x) page b new is fails dump = subst (λ (b : Bool). IsDumpBy b (page_view page) new) (sym fails ∙ is) dump
+OnOk-built_dump (Err x) page b new is fails dump = tt
 
 -- a query needs a page
 pub query-not_loaded : (state : Option KeptPage) (q : Query) → state ≡ None → first_of (request_causes (state_view state) (query q)) ≡ Some NotLoaded
 query-not_loaded state Dump is = rw is refl
+query-not_loaded state Rules is = rw is refl
 
 -- a refusal with a cause is by the first that holds
 pub refused-cause : (causes : Causes) (r : Refusal) (c : Cause) → IsRefusedBy causes r → cause_of r ≡ Some c → first_of causes ≡ Some c

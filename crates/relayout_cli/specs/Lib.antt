@@ -1,4 +1,5 @@
 pub mod Statuses
+pub mod Sheets
 pub mod Pages
 pub mod Runs
 pub mod Words

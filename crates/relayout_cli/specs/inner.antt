@@ -3,6 +3,7 @@ pub mod Flat
 pub mod Frames
 pub mod Walk
 pub mod Dumps
+pub mod RuleLines
 pub mod Edits
 pub mod Coming
 pub mod Turns

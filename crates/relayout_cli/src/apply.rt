@@ -1,18 +1,20 @@
 //! Carrying out edits.
-ghost use Rattle.std.specs.Prelude.{◌≡◌, [], unwrap_or, OnOk, OnErr, IfOk, IfErr, Some, None, true};
+ghost use Rattle.std.specs.Prelude.{◌≡◌, OnOk, OnErr, IfOk, IfErr, Some, None, true};
 ghost use Rattle.page_model.specs.Document.{find};
 ghost use Rattle.page_model.specs.Trees.{is_elem, size};
 ghost use Rattle.page_model.specs.Refusals.{first_of, IsRefusedBy};
 ghost use Rattle.page_model.specs.Edits.{insert_causes, remove_causes, document_after_insert, document_after_remove};
 ghost use Rattle.page_model.specs.declared.refusal.Refusal.TheVariants.{NoNode as no_node};
 ghost use Rattle.request_model.specs.Requests.{load, insert, remove};
-ghost use Rattle.request_model.specs.States.{edit_causes, state_after_edit, accepted_by, with_document};
+ghost use Rattle.request_model.specs.States.{edit_causes, state_after_edit, accepted_by, with_document, with_sheets, sheets_after, sheet_causes};
 ghost use Rattle.dom_arena.specs.Shape.{shape};
 ghost use Rattle.relayout_requests.specs.Views.{edit_view};
+ghost use Rattle.relayout_cli.specs.Sheets.{texts_of};
 ghost use Rattle.relayout_cli.specs.Pages.{page_view, state_view};
 ghost use Rattle.relayout_cli.specs.inner.Edits.{HasRoot};
 
 use crate::page::Page;
+use crate::sheets::{change_sheets, read_sheets};
 use dom_arena::{Doc, Tree};
 use page_model::{MAX_SIDE, Refusal, Viewport};
 use port_core::{NodeId, Seq, Text};
@@ -49,6 +51,10 @@ pub fn apply(alloc: Global, state: &mut Option<Page>, edit: Edit) -> Result<Acce
             Some(page) => apply_remove(page, id),
             None => Err(Refusal::NotLoaded),
         },
+        Edit::Sheet { at, css } => match state {
+            Some(page) => apply_sheet(alloc, page, at, css),
+            None => Err(Refusal::NotLoaded),
+        },
     }
 }
 
@@ -76,9 +82,9 @@ fn apply_load(
     if viewport.width > MAX_SIDE || viewport.height > MAX_SIDE {
         return Err(Refusal::ViewportRange);
     }
+    let sheets = read_sheets(alloc, sheets)?;
     let document = Doc::new(alloc, doc)?;
     let count = document.next_id();
-    let sheets = texts_or_none(alloc, sheets);
     let page = Page {
         document,
         sheets,
@@ -86,16 +92,6 @@ fn apply_load(
     };
     *state = Some(page);
     Ok(Accepted { first: 0, count })
-}
-
-/// Returns `texts`, or an empty list where there are none.
-fn texts_or_none(alloc: Global, texts: Option<Seq<Text>>) -> Seq<Text>
-    ensures { result ≡ unwrap_or texts [] }
-{
-    match texts {
-        Some(texts) => texts,
-        None => Seq::new(alloc),
-    }
 }
 
 /// Inserts `tree` at `index` among the children of `parent`.
@@ -129,6 +125,26 @@ fn apply_remove(page: &mut Page, id: u64) -> Result<Accepted, Refusal>
 {
     let id = node_id(&page.document, id)?;
     page.document.remove(id)?;
+    Ok(Accepted { first: 0, count: 0 })
+}
+
+/// Puts a style sheet in place of the one at `at` or behind all, or takes that one out.
+fn apply_sheet(
+    alloc: Global,
+    page: &mut Page,
+    at: u64,
+    css: Option<Text>,
+) -> Result<Accepted, Refusal>
+    ensures accepted { IfOk result (λ a. a ≡ record { first = 0; count = 0 }) }
+    ensures page { OnOk result (page_view page.new
+        ≡ with_sheets (sheets_after at css) (page_view page.old)) }
+    ensures allowed { OnOk result
+        (first_of (sheet_causes at css (texts_of page.old.sheets)) ≡ None) }
+    ensures refused { IfErr result
+        (IsRefusedBy (sheet_causes at css (texts_of page.old.sheets))) }
+    ensures kept { OnErr result (page.new ≡ page.old) }
+{
+    change_sheets(alloc, &mut page.sheets, at, css)?;
     Ok(Accepted { first: 0, count: 0 })
 }
 

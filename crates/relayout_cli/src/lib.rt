@@ -9,8 +9,10 @@ mod page;
 mod plain;
 mod replies;
 mod respond;
+mod rules;
 mod running;
 mod serving;
+mod sheets;
 mod status;
 
 pub use examples::{examples_of_causes, examples_of_logs, examples_of_what_is_written};

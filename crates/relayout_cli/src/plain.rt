@@ -11,15 +11,15 @@ use dom_arena::{Attrs, Tree};
 use port_core::Text;
 use relayout_requests::{Edit, Request};
 
-/// Returns whether the form of a request is built: a load has no style sheets, and each tree is of
-/// `div` elements alone, without attributes.
+/// Returns whether the form of a request is built: each tree is of `div` elements alone, without
+/// attributes.
 pub fn is_built(request: &Request) -> bool
     ensures { result ≡ is_none (first_of (form_causes (request_view request.now))) }
 {
     match request {
-        Request::Edit(Edit::Load { doc, sheets, .. }) => sheets.is_none() && is_plain_tree(doc),
+        Request::Edit(Edit::Load { doc, .. }) => is_plain_tree(doc),
         Request::Edit(Edit::Insert { tree, .. }) => is_plain_tree(tree),
-        Request::Edit(Edit::Remove { .. }) | Request::Query(_) => true,
+        Request::Edit(Edit::Remove { .. } | Edit::Sheet { .. }) | Request::Query(_) => true,
     }
 }
 

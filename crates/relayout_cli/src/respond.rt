@@ -4,6 +4,8 @@ ghost use Rattle.page_model.specs.Refusals.{first_of};
 ghost use Rattle.request_model.specs.Requests.{edit as an_edit, request as a_request, query as a_query};
 ghost use Rattle.request_model.specs.States.{form_causes, most_logs, brings_tree};
 ghost use Rattle.relayout_requests.specs.Views.{asked_view, edit_view, request_view};
+ghost use Rattle.relayout_cli.specs.Pages.{page_view};
+ghost use Rattle.relayout_cli.specs.inner.Dumps.{IsDumpReply};
 ghost use Rattle.relayout_cli.specs.inner.Turns.{IsResponse, empty_logs};
 
 use crate::apply::apply;
@@ -11,6 +13,8 @@ use crate::dump::push_dump;
 use crate::page::Page;
 use crate::plain::is_built;
 use crate::replies::{MAX_EDIT_REPLY, push_accepted, push_error};
+use crate::rules::push_rules;
+use crate::sheets::any_has_rules;
 use page_model::Cause;
 use port_core::NoMemory;
 use relayout_requests::{Asked, Edit, Request};
@@ -58,7 +62,7 @@ fn respond_built(
 {
     match request {
         Request::Edit(edit) => respond_edit(alloc, state, edit, reply),
-        Request::Query(query) => respond_query(state, query, reply),
+        Request::Query(query) => respond_query(alloc, state, query, reply),
     }
 }
 
@@ -96,7 +100,12 @@ fn brings_tree(edit: &Edit) -> bool
 }
 
 /// Answers a query, or refuses it.
-fn respond_query(state: &Option<Page>, query: Query, reply: &mut String) -> Result<(), NoMemory>
+fn respond_query(
+    alloc: Global,
+    state: &Option<Page>,
+    query: Query,
+    reply: &mut String,
+) -> Result<(), NoMemory>
     requires empty { string_bytes reply.old ≡ [] }
     ensures response { OnOk result (IsResponse (a_request (a_query query))
         (empty_logs (most_logs (a_request (a_query query)))) (string_bytes reply.new)
@@ -104,8 +113,20 @@ fn respond_query(state: &Option<Page>, query: Query, reply: &mut String) -> Resu
 {
     match state {
         Some(page) => match query {
-            Query::Dump => push_dump(page, reply),
+            Query::Dump => respond_dump(page, reply),
+            Query::Rules => push_rules(alloc, page, reply),
         },
         None => push_error(reply, Cause::NotLoaded),
     }
+}
+
+/// Dumps a page, or refuses to while a sheet has a style rule.
+fn respond_dump(page: &Page, reply: &mut String) -> Result<(), NoMemory>
+    requires empty { string_bytes reply.old ≡ [] }
+    ensures { OnOk result (IsDumpReply (page_view page.now) (string_bytes reply.new)) }
+{
+    if any_has_rules(page.sheets.as_slice()) {
+        return push_error(reply, Cause::NotBuilt);
+    }
+    push_dump(page, reply)
 }

@@ -12,6 +12,7 @@ abbrev pub edit_view : Edit → model.Edit
 edit_view (edit.Load width height doc sheets) = model.load width height (shape doc) sheets
 edit_view (edit.Insert parent index tree) = model.insert parent index (shape tree)
 edit_view (edit.Remove id) = model.remove id
+edit_view (edit.Sheet at css) = model.sheet at css
 
 abbrev pub request_view : Request → model.Request
 request_view (request.Edit e) = model.edit (edit_view e)

@@ -1,11 +1,13 @@
 //! The grammar of requests.
 ghost use Rattle.std.specs.Prelude.{◌≡◌, Some, IfOk};
 ghost use Rattle.serde_json.specs.View.{view};
-ghost use Rattle.request_model.specs.Requests.{asked_of, is_name_not_built, request_named, load_of, insert_of, remove_of, dump_of};
+ghost use Rattle.request_model.specs.Requests.{asked_of, is_name_not_built, request_named, load_of, insert_of, remove_of, sheet_of, dump_of, rules_of};
 ghost use Rattle.relayout_requests.specs.Views.{asked_view, request_view, edit_view};
 ghost use Rattle.relayout_requests.specs.Reads.{Reads};
 
-use crate::members::{count_members, doc_at, number_at, string_at, texts_at, tree_at};
+use crate::members::{
+    count_members, doc_at, number_at, string_at, text_or_null_at, texts_at, tree_at,
+};
 use crate::request::{Asked, Edit, Request};
 use crate::unread::Unread;
 use page_model::Cause;
@@ -39,16 +41,7 @@ fn is_name_not_built(name: &str) -> bool
 {
     matches!(
         name,
-        "sheet"
-            | "rules"
-            | "match"
-            | "style"
-            | "resize"
-            | "move"
-            | "set-attr"
-            | "drop-attr"
-            | "set-text"
-            | "counts"
+        "match" | "style" | "resize" | "move" | "set-attr" | "drop-attr" | "set-text" | "counts"
     )
 }
 
@@ -61,7 +54,9 @@ fn read_named(alloc: Global, name: &str, value: &Value) -> Result<Request, Unrea
         "load" => Ok(Request::Edit(read_load(alloc, value)?)),
         "insert" => Ok(Request::Edit(read_insert(alloc, value)?)),
         "remove" => Ok(Request::Edit(read_remove(value)?)),
+        "sheet" => Ok(Request::Edit(read_sheet(alloc, value)?)),
         "dump" => Ok(Request::Query(read_dump(value)?)),
+        "rules" => Ok(Request::Query(read_rules(value)?)),
         _ => Err(Unread::BadRequest),
     }
 }
@@ -114,6 +109,18 @@ fn read_remove(value: &Value) -> Result<Edit, Unread>
     Ok(Edit::Remove { id })
 }
 
+#[tactic(auto, unfolding(request_model::specs::Requests::sheet_of))]
+fn read_sheet(alloc: Global, value: &Value) -> Result<Edit, Unread>
+    ensures { Reads edit_view result (sheet_of (view value.now)) }
+{
+    let at = number_at(value, "at")?;
+    let css = text_or_null_at(alloc, value, "css")?;
+    if count_members(value) != 3 {
+        return Err(Unread::BadRequest);
+    }
+    Ok(Edit::Sheet { at, css })
+}
+
 #[tactic(auto, unfolding(request_model::specs::Requests::dump_of))]
 fn read_dump(value: &Value) -> Result<Query, Unread>
     ensures { Reads (λ q. q) result (dump_of (view value.now)) }
@@ -122,4 +129,14 @@ fn read_dump(value: &Value) -> Result<Query, Unread>
         return Err(Unread::BadRequest);
     }
     Ok(Query::Dump)
+}
+
+#[tactic(auto, unfolding(request_model::specs::Requests::rules_of))]
+fn read_rules(value: &Value) -> Result<Query, Unread>
+    ensures { Reads (λ q. q) result (rules_of (view value.now)) }
+{
+    if count_members(value) != 1 {
+        return Err(Unread::BadRequest);
+    }
+    Ok(Query::Rules)
 }

@@ -2,7 +2,7 @@
 ghost use Rattle.std.specs.Prelude.{◌≡◌, option_map};
 ghost use Rattle.serde_json.specs.View.{view, items_view};
 ghost use Rattle.dom_arena.specs.Shape.{shape};
-ghost use Rattle.request_model.specs.Requests.{members, number_at, string_at, tree_at, doc_at, texts_at, texts_of, texts_of_items};
+ghost use Rattle.request_model.specs.Requests.{members, number_at, string_at, tree_at, doc_at, text_or_null_at, texts_at, texts_of, texts_of_items};
 ghost use Rattle.relayout_requests.specs.Reads.{Reads};
 
 use crate::unread::Unread;
@@ -27,6 +27,17 @@ pub fn string_at<'v>(value: &'v Value, key: &str) -> Option<&'v str>
     ensures { option_map (λ s. s.now) result ≡ string_at key.now (view value.now) }
 {
     value.get(key).and_then(Value::as_str)
+}
+
+/// Reads the member `key`, a string or null.
+pub fn text_or_null_at(alloc: Global, value: &Value, key: &str) -> Result<Option<Text>, Unread>
+    ensures { Reads (λ t. t) result (text_or_null_at key.now (view value.now)) }
+{
+    match value.get(key) {
+        Some(Value::Null) => Ok(None),
+        Some(Value::String(text)) => Ok(Some(Text::new(alloc, text.as_str())?)),
+        _ => Err(Unread::BadRequest),
+    }
 }
 
 /// Reads the member `key` as an integer in digits alone.

@@ -32,6 +32,13 @@ pub enum Edit {
         /// The id of the node.
         id: u64,
     },
+    /// Puts a style sheet in place of another or behind all, or takes one out.
+    Sheet {
+        /// The number of sheets before it.
+        at: u64,
+        /// The text of the sheet; without one the sheet is taken out.
+        css: Option<Text>,
+    },
 }
 
 /// A request in the grammar.

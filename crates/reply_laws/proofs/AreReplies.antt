@@ -1,17 +1,16 @@
 -- A script has replies, and by its logs there is one text of them.
-use Rattle.std.proofs.Common.{Bool, IsSome, List, None, Some, [], ap, ap₂, append-nil, cond, false, length, not, true, refl, subst, sym, ℕ, ◌++◌, ◌∷◌, ◌∙◌, ◌≡◌}
+use Rattle.std.proofs.Common.{Bool, List, None, Some, [], ap, ap₂, append-nil, cond, false, length, true, refl, subst, sym, ℕ, ◌++◌, ◌∷◌, ◌∙◌, ◌≡◌}
 use Rattle.layout_model.specs.Setting.{Setting}
 use Rattle.page_model.specs.Pages.{State}
 use Rattle.page_model.specs.declared.cause.Cause.{Cause}
-use Rattle.page_model.specs.declared.cause.Cause.TheVariants.{NotBuilt, NotLoaded}
 use Rattle.reply_laws.proofs.AreLogs.{cut-same}
 use Rattle.reply_laws.proofs.IsAnswered.{length-turn, turn-accepted, turn-dump, turn-one, turn-some}
 use Rattle.reply_laws.proofs.StateHasGivenIds.{given-turn}
 use Rattle.reply_laws.specs.Scripts.{IsEditThenDump}
 use Rattle.reply_laws.specs.States.{StateHasGivenIds}
 use Rattle.reply_model.specs.Replies.{AreReplies, Course, IsEditReply, IsQueryReply, IsTurn, Step}
-use Rattle.request_model.specs.Requests.{Edit, asked_of_line, edit, insert, load, query, remove, request}
-use Rattle.request_model.specs.States.{is_plain, refusal_of, state_after_edit}
+use Rattle.request_model.specs.Requests.{Edit, asked_of_line, edit, query, request}
+use Rattle.request_model.specs.States.{refusal_of, state_after_edit}
 use Rattle.request_model.specs.declared.query.Query.TheVariants.{Dump}
 use Rattle.stream_model.specs.Ledger.{Log}
 
@@ -67,21 +66,13 @@ some-cause : (b : Bool) (c d : Cause) → cond b (Some c) (Some d) ≡ None → 
 some-cause true c d h = cc
 some-cause false c d h = cc
 
--- something is loaded after an edit that is not refused
-loaded-after : (s : State) (e : Edit) → refusal_of s (edit e) ≡ None → IsSome (state_after_edit s e)
-unfolding refusal_of
-loaded-after s (load width height doc sheets) none = refl
-loaded-after (Some page) (insert parent index new) none = refl
-loaded-after (Some page) (remove id) none = refl
-loaded-after None (insert parent index new) none = absurd (some-cause (not (is_plain new)) NotBuilt NotLoaded none)
-loaded-after None (remove id) none = absurd (cc)
-
 pub edit-then-dump : (setting : Setting) (from : Course) (first second : List ℕ) (e : Edit) (logs : List Log) (text : List ℕ)
     → asked_of_line first ≡ request (edit e) → asked_of_line second ≡ request (query Dump)
-    → refusal_of from.state (edit e) ≡ None → AreReplies setting from (first ∷ second ∷ []) logs text
+    → refusal_of from.state (edit e) ≡ None → refusal_of (state_after_edit from.state e) (query Dump) ≡ None
+    → AreReplies setting from (first ∷ second ∷ []) logs text
     → IsEditThenDump setting from e logs text
 unfolding AreReplies
-edit-then-dump setting from first second e logs text one two none p =
+edit-then-dump setting from first second e logs text one two none dumps p =
     let s : Step setting from first logs text = p.0 in
     let t : Step setting s.to second s.later s.others = p.1.0 in
     let edit_turn : IsTurn setting from (request (edit e)) s.own s.reply s.to =
@@ -89,7 +80,7 @@ edit-then-dump setting from first second e logs text one two none p =
     let dump_turn : IsTurn setting s.to (request (query Dump)) t.own t.reply t.to =
     subst (λ asked. IsTurn setting s.to asked t.own t.reply t.to) two t.turn in
     let edited : IsEditReply setting from e s.own s.reply s.to = turn-accepted setting from s.to (edit e) s.own s.reply none edit_turn in
-    let loaded : IsSome s.to.state = subst (λ (s : State). IsSome s) (sym edited.state) (loaded-after from.state e none) in
+    let after : refusal_of s.to.state (query Dump) ≡ None = subst (λ (s : State). refusal_of s (query Dump) ≡ None) (sym edited.state) dumps in
     record {
       to = s.to;
       edit_logs = s.own;
@@ -99,5 +90,5 @@ edit-then-dump setting from first second e logs text one two none p =
       logs_are = s.logs_are ∙ ap (λ (rest : List Log). s.own ++ rest) (t.logs_are ∙ (ap (λ (rest : List Log). t.own ++ rest) p.1.1.0 ∙ append-nil t.own));
       text_is = s.text_is ∙ ap (λ (rest : List ℕ). s.reply ++ rest) (t.text_is ∙ (ap (λ (rest : List ℕ). t.reply ++ rest) p.1.1.1 ∙ append-nil t.reply));
       edited = edited;
-      dumped = subst (λ (state : State). IsQueryReply state setting s.to Dump t.own t.reply) edited.state (turn-dump setting s.to t.to t.own t.reply loaded dump_turn);
+      dumped = subst (λ (state : State). IsQueryReply state setting s.to Dump t.own t.reply) edited.state (turn-dump setting s.to t.to t.own t.reply after dump_turn);
     }

@@ -1,5 +1,5 @@
 -- What a line asks for has an answer, and by its logs there is one.
-use Rattle.std.proofs.Common.{IsSome, is_some, List, None, Option, Some, [], ap, length, refl, subst, sym, ℕ, ◌++◌, ◌∷◌, ◌∙◌, ◌≡◌}
+use Rattle.std.proofs.Common.{List, None, Option, Some, [], ap, length, refl, subst, sym, ℕ, ◌++◌, ◌∷◌, ◌∙◌, ◌≡◌}
 use Rattle.layout_laws.proofs.FlatAssignment.{some-consistent}
 use Rattle.layout_laws.proofs.Holds.{consistent-same}
 use Rattle.layout_model.specs.Consistent.{Assignment, Consistent}
@@ -11,11 +11,12 @@ use Rattle.reply_laws.proofs.AreLogs.{length-logs, length-logs_of, some-logs, so
 use Rattle.reply_laws.specs.States.{StateHasGivenIds}
 use Rattle.reply_model.specs.DumpText.{dump_text}
 use Rattle.reply_model.specs.Replies.{Course, IsAnswered, IsQueryReply, IsReplyOn, IsTurn, dump_causes, edit_text, newest, text_unless}
+use Rattle.reply_model.specs.RulesText.{rules_text}
 use Rattle.reply_model.specs.Spelling.{error_line, ok_line}
 use Rattle.request_model.specs.Requests.{Asked, Edit, Request, broken, edit, nothing, query, request}
 use Rattle.request_model.specs.States.{Answer, accepted, accepted_by, answer_by, answer_to, brings_tree, logs_of, logs_of_refused, refusal_of, refused, silent, state_after_edit}
 use Rattle.request_model.specs.declared.query.Query.{Query}
-use Rattle.request_model.specs.declared.query.Query.TheVariants.{Dump}
+use Rattle.request_model.specs.declared.query.Query.TheVariants.{Dump, Rules}
 use Rattle.stream_model.specs.Ledger.{Log}
 
 -- ---- the number of logs
@@ -24,6 +25,7 @@ length-query : (s : State) (setting : Setting) (from : Course) (q : Query) (own 
     → IsQueryReply s setting from q own reply → length own ≡ logs_of (query q)
 length-query None setting from q own reply h = absurd h
 length-query (Some page) setting from Dump own reply h = length-logs_of setting from (query Dump) (Some h.0) own h.2
+length-query (Some page) setting from Rules own reply h = length-logs_of setting from (query Rules) None own h.0
 
 -- how many logs an answer begins
 abbrev pub log_count : Answer → Asked → ℕ
@@ -55,6 +57,7 @@ query-one None setting from q own reply reply' h k = absurd h
 query-one (Some page) setting from Dump own reply reply' h k =
     let same : h.0 ≡ k.0 = λ j i. consistent-same setting page h.0 k.0 h.1 k.1 i j in
     h.3 ∙ (ap (dump_reply page) same ∙ sym k.3)
+query-one (Some page) setting from Rules own reply reply' h k = h.1 ∙ sym k.1
 
 answered-one : (answer : Answer) (setting : Setting) (from to to' : Course) (asked : Asked) (own : List Log) (reply reply' : List ℕ)
     → IsAnswered answer setting from asked own reply to → IsAnswered answer setting from asked own reply' to' → (reply ≡ reply') × (to ≡ to')
@@ -85,10 +88,14 @@ query-some : (s : State) (setting : Setting) (from : Course) (q : Query) → Sta
     → (own : List Log) × ((reply : List ℕ) × IsQueryReply s setting from q own reply)
 unfolding refusal_of
 query-some None setting from Dump given none = absurd (cc)
+query-some None setting from Rules given none = absurd (cc)
 query-some (Some page) setting from Dump given none =
     let a = some-consistent setting page given in
     let logs = some-logs_of setting from (query Dump) (Some a.0) in
     (logs.0, (dump_reply page a.0, (a.0, a.1, logs.1, refl)))
+query-some (Some page) setting from Rules given none =
+    let logs = some-logs_of setting from (query Rules) None in
+    (logs.0, (rules_text page.sheets ++ ok_line, (logs.1, refl)))
 
 accepted-some : (setting : Setting) (from : Course) (asked : Asked) (q : Request) → StateHasGivenIds from.state → refusal_of from.state q ≡ None
     → SomeAnswer (accepted q) setting from asked
@@ -154,22 +161,16 @@ unfolding IsTurn
 turn-accepted setting from to q own reply none h =
     subst (λ (cause : Option Cause). IsAnswered (answer_by q cause) setting from (request q) own reply to) none h
 
--- a dump of what is loaded is not refused before its assignment is looked at
-dump-accepted : (s : State) → IsSome s → refusal_of s (query Dump) ≡ None
-unfolding refusal_of
-dump-accepted (Some page) some = refl
-dump-accepted None some = absurd (cc)
-
-pub turn-dump : (setting : Setting) (from to : Course) (own : List Log) (reply : List ℕ) → IsSome from.state
+pub turn-dump : (setting : Setting) (from to : Course) (own : List Log) (reply : List ℕ) → refusal_of from.state (query Dump) ≡ None
     → IsTurn setting from (request (query Dump)) own reply to → IsQueryReply from.state setting from Dump own reply
-turn-dump setting from to own reply some turn =
-    (turn-accepted setting from to (query Dump) own reply (dump-accepted from.state some) turn).0
+turn-dump setting from to own reply none turn = (turn-accepted setting from to (query Dump) own reply none turn).0
 
 pub turn-dump-text : (setting : Setting) (from to : Course) (page : Page) (a : Assignment) (own : List Log) (reply : List ℕ)
-    → from.state ≡ Some page → Consistent setting page a → IsTurn setting from (request (query Dump)) own reply to → reply ≡ dump_reply page a
-turn-dump-text setting from to page a own reply is consistent turn =
+    → from.state ≡ Some page → refusal_of from.state (query Dump) ≡ None → Consistent setting page a → IsTurn setting from (request (query Dump)) own reply to
+    → reply ≡ dump_reply page a
+turn-dump-text setting from to page a own reply is none consistent turn =
     let reply_is : IsReplyOn page setting from Dump own reply =
-    subst (λ (s : State). IsQueryReply s setting from Dump own reply) is (turn-dump setting from to own reply (ap is_some is) turn) in
+    subst (λ (s : State). IsQueryReply s setting from Dump own reply) is (turn-dump setting from to own reply none turn) in
     let same : reply_is.0 ≡ a = λ j i. consistent-same setting page reply_is.0 a reply_is.1 consistent i j in
     reply_is.3 ∙ ap (dump_reply page) same
 
@@ -180,8 +181,8 @@ edit-count None e = refl
 edit-count (Some c) e = refl
 
 query-count : (cause : Option Cause) (q : Query) → log_count (answer_by (query q) cause) (request (query q)) ≡ 0
-query-count None Dump = refl
-query-count (Some c) Dump = refl
+query-count None q = refl
+query-count (Some c) q = refl
 
 pub turn-edit-logs : (setting : Setting) (from to : Course) (e : Edit) (own : List Log) (reply : List ℕ)
     → IsTurn setting from (request (edit e)) own reply to → length own ≡ 1

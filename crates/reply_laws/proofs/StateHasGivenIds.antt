@@ -6,7 +6,7 @@ use Rattle.page_laws.proofs.DocumentAfterRemove.{well-removed}
 use Rattle.page_model.specs.Pages.{State}
 use Rattle.reply_laws.specs.States.{StateHasGivenIds}
 use Rattle.reply_model.specs.Replies.{Course, IsAnswered, IsTurn}
-use Rattle.request_model.specs.Requests.{Asked, Edit, edit, insert, load, query, remove}
+use Rattle.request_model.specs.Requests.{Asked, Edit, edit, insert, load, query, remove, sheet}
 use Rattle.request_model.specs.States.{Answer, accepted, answer_to, refused, silent, state_after_edit}
 use Rattle.stream_model.specs.Ledger.{Log}
 
@@ -16,6 +16,8 @@ given-after_edit None (insert parent index new) given = tt
 given-after_edit (Some page) (insert parent index new) given = well-inserted parent index new page.document given
 given-after_edit None (remove id) given = tt
 given-after_edit (Some page) (remove id) given = well-removed id page.document given
+given-after_edit None (sheet at css) given = tt
+given-after_edit (Some page) (sheet at css) given = given
 
 given-same : (from to : Course) → to ≡ from → StateHasGivenIds from.state → StateHasGivenIds to.state
 given-same from to e given = subst (λ (c : Course). StateHasGivenIds c.state) (sym e) given

@@ -1,10 +1,11 @@
 -- States by what is loaded.
-use Rattle.std.specs.Prelude.{List, None, Some, [], ℕ, ◌≤◌}
+use Rattle.std.specs.Prelude.{List, None, Some, [], false, ℕ, ◌≡◌, ◌≤◌}
 use Rattle.page_laws.specs.Ids.{HasGivenIds, count_up}
 use Rattle.page_laws.specs.Limits.{KeepsLimits}
 use Rattle.page_model.specs.Document.{ids}
 use Rattle.page_model.specs.Pages.{Page, State}
 use Rattle.page_model.specs.declared.limits.TheConstants.{MAX_SIDE}
+use Rattle.request_model.specs.States.{are_over_sheet_limits}
 use Rattle.request_model.specs.declared.accepted.Accepted.{Accepted}
 
 -- no id stands twice on what is loaded, and each is below the one that the next new node gets
@@ -17,6 +18,7 @@ pub record PageKeepsLimits (page : Page) : Type 0 where
   pub document : KeepsLimits page.document
   pub width : page.viewport.width ≤ MAX_SIDE
   pub height : page.viewport.height ≤ MAX_SIDE
+  pub sheets : are_over_sheet_limits page.sheets ≡ false
 
 -- what is loaded breaks no limit
 abbrev pub StateKeepsLimits : State → Type 0

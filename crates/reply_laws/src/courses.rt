@@ -16,7 +16,7 @@ pub fn keep_given_ids()
 {}
 
 /// What is loaded never breaks a limit: of the names, attributes, texts, levels, nodes and ids of the
-/// document, and of the sides of the viewport.
+/// document, of the sides of the viewport, and of the style sheets.
 pub fn keep_limits()
     ensures at_the_start { StateKeepsLimits start.state }
     ensures each_turn { (setting : Setting) (from to : Course) (asked : Asked) (own : List Log)

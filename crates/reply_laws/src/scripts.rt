@@ -3,7 +3,7 @@ ghost use Rattle.std.specs.Prelude.{◌≡◌, ℕ, List, [], ◌∷◌, None};
 ghost use Rattle.reply_laws.specs.Scripts.{IsEditThenDump};
 ghost use Rattle.reply_model.specs.Replies.{AreReplies, Course, Replies};
 ghost use Rattle.request_model.specs.Requests.{Edit, asked_of_line, edit, query, request};
-ghost use Rattle.request_model.specs.States.{refusal_of};
+ghost use Rattle.request_model.specs.States.{refusal_of, state_after_edit};
 ghost use Rattle.request_model.specs.declared.query.Query.TheVariants.{Dump};
 ghost use Rattle.stream_model.specs.Ledger.{Log};
 ghost use Rattle.layout_model.specs.Setting.{Setting};
@@ -26,6 +26,8 @@ pub fn dump_what_edits_leave()
     ensures { (setting : Setting) (from : Course) (first second : List ℕ) (e : Edit)
         (logs : List Log) (text : List ℕ)
         → asked_of_line first ≡ request (edit e) → asked_of_line second ≡ request (query Dump)
-        → refusal_of from.state (edit e) ≡ None → AreReplies setting from (first ∷ second ∷ []) logs text
+        → refusal_of from.state (edit e) ≡ None
+        → refusal_of (state_after_edit from.state e) (query Dump) ≡ None
+        → AreReplies setting from (first ∷ second ∷ []) logs text
         → IsEditThenDump setting from e logs text }
 {}

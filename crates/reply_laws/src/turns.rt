@@ -44,12 +44,13 @@ pub fn queries_change_nothing()
         → IsTurn setting from (request (query q)) own reply to → to ≡ from }
 {}
 
-/// A dump is the text of the consistent assignment: of every one, as there are not two.
+/// A dump that is not refused before is the text of the consistent assignment: of every one, as there are
+/// not two.
 pub fn dumps_show_the_assignment()
     ensures { (setting : Setting) (from to : Course) (page : Page) (a : Assignment) (own : List Log)
         (reply : List ℕ)
-        → from.state ≡ Some page → Consistent setting page a
-        → IsTurn setting from (request (query Dump)) own reply to
+        → from.state ≡ Some page → refusal_of from.state (query Dump) ≡ None
+        → Consistent setting page a → IsTurn setting from (request (query Dump)) own reply to
         → reply ≡ text_unless (first_of (dump_causes page a)) (dump_text page.document.root a ++ ok_line) }
 {}
 

@@ -1,3 +1,5 @@
 pub mod Spelling
 pub mod DumpText
+pub mod RulesText
 pub mod Replies
+pub mod inner

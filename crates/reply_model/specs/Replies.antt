@@ -5,7 +5,7 @@ use Rattle.page_model.specs.Pages.{Page, State}
 use Rattle.page_model.specs.Refusals.{Causes, first_of}
 use Rattle.page_model.specs.declared.cause.Cause.{Cause}
 use Rattle.request_model.specs.declared.query.Query.{Query}
-use Rattle.request_model.specs.declared.query.Query.TheVariants.{Dump}
+use Rattle.request_model.specs.declared.query.Query.TheVariants.{Dump, Rules}
 use Rattle.request_model.specs.declared.accepted.Accepted.{Accepted}
 use Rattle.request_model.specs.Requests.{Edit, Request, edit, query, Asked, asked_of_line}
 use Rattle.request_model.specs.States.{Answer, silent, refused, accepted, answer_to, accepted_by, brings_tree, state_after_edit, logs_of, logs_of_refused}
@@ -13,6 +13,7 @@ use Rattle.layout_model.specs.Setting.{Setting}
 use Rattle.layout_model.specs.Consistent.{Assignment, Consistent}
 use Rattle.reply_model.specs.Spelling.{ok_line, ok_nodes_line, error_line}
 use Rattle.reply_model.specs.DumpText.{dump_text}
+use Rattle.reply_model.specs.RulesText.{rules_text}
 
 -- where a script has come to: what is loaded, and what the last accepted edit logged
 pub record Course : Type 0 where
@@ -64,6 +65,8 @@ abbrev pub IsReplyOn : Page → Setting → Course → Query → List Log → Li
 IsReplyOn page setting from Dump own reply =
     (a : Assignment) × Consistent setting page a × AreLogsOf setting from (query Dump) (Some a) own
     × (reply ≡ text_unless (first_of (dump_causes page a)) (dump_text page.document.root a ++ ok_line))
+IsReplyOn page setting from Rules own reply =
+    AreLogsOf setting from (query Rules) None own × (reply ≡ rules_text page.sheets ++ ok_line)
 
 -- the reply to a query of what is loaded
 abbrev pub IsQueryReply : State → Setting → Course → Query → List Log → List ℕ → Type 0

@@ -3,5 +3,7 @@
 #![tactic(auto)]
 
 mod examples;
+mod rules_examples;
 
 pub use examples::{examples_of_dumps, examples_of_lines, examples_of_scripts, examples_of_turns};
+pub use rules_examples::{examples_of_quoted_strings, examples_of_rule_lines};

@@ -3,7 +3,7 @@ use Rattle.std.specs.Prelude.{ℕ, ◌+◌, ◌==◌, List, [], ◌∷◌, Bool,
 use Rattle.std.specs.List.{list_any}
 use Rattle.std.specs.Option.{option_map_or}
 use Rattle.std.specs.Str.{chars, is_utf8, bytes_eq}
-use Rattle.serde_json.specs.Data.{Data, Items, no_items, item, Members, no_members, member}
+use Rattle.serde_json.specs.Data.{Data, null, string, Items, no_items, item, Members, no_members, member}
 use Rattle.serde_json.specs.Read.{read}
 use Rattle.serde_json.specs.Find.{get, as_number, as_u64, as_str, as_array, as_object}
 use Rattle.stream_model.specs.Lines.{is_blank, is_too_long}
@@ -12,13 +12,14 @@ use Rattle.page_model.specs.Jsonml.{doc_of, tree_of}
 use Rattle.page_model.specs.declared.cause.Cause.{Cause}
 use Rattle.page_model.specs.declared.cause.Cause.TheVariants.{BadJson, BadRequest, LineTooLong, NotBuilt}
 use Rattle.request_model.specs.declared.query.Query.{Query}
-use Rattle.request_model.specs.declared.query.Query.TheVariants.{Dump}
+use Rattle.request_model.specs.declared.query.Query.TheVariants.{Dump, Rules}
 
 -- a request that may change what is loaded
 pub data Edit : Type 0 where
   load : (width height : ℕ) (doc : Tree) (sheets : Option (List Text)) → Edit
   insert : (parent index : ℕ) (new : Tree) → Edit
   remove : (id : ℕ) → Edit
+  sheet : (at : ℕ) (css : Option Text) → Edit  -- no text takes the sheet out
 
 pub data Request : Type 0 where
   edit : Edit → Request
@@ -71,6 +72,15 @@ optional f (Some d) = option_map Some (f d)
 abbrev pub texts_at : List ℕ → Data → Option (Option (List Text))
 texts_at key d = optional texts_of (get key d)
 
+-- a string, or null
+abbrev pub text_or_null_of : Data → Option (Option Text)
+text_or_null_of null = Some None
+text_or_null_of (string s) = Some (Some (chars s))
+text_or_null_of d = None
+
+abbrev pub text_or_null_at : List ℕ → Data → Option (Option Text)
+text_or_null_at key d = option_and_then text_or_null_of (get key d)
+
 -- ---- requests: each has exactly the members of its kind
 
 abbrev pub one_if : Bool → ℕ
@@ -106,8 +116,19 @@ remove_from members None = None
 unfoldable pub remove_of : Data → Option Edit
 remove_of d = remove_from (members d) (number_at (codes "id") d)
 
+-- a sheet of its place and its text, where the object has no other member
+abbrev pub sheet_from : ℕ → Option ℕ → Option (Option Text) → Option Edit
+sheet_from members (Some at) (Some css) = if members == 3 then Some (sheet at css) else None
+sheet_from members at css = None
+
+unfoldable pub sheet_of : Data → Option Edit
+sheet_of d = sheet_from (members d) (number_at (codes "at") d) (text_or_null_at (codes "css") d)
+
 unfoldable pub dump_of : Data → Option Query
 dump_of d = if members d == 1 then Some Dump else None
+
+unfoldable pub rules_of : Data → Option Query
+rules_of d = if members d == 1 then Some Rules else None
 
 -- the request that an object is whose `do` has this value
 unfoldable pub request_named : List ℕ → Data → Option Request
@@ -115,12 +136,14 @@ request_named name d =
     if bytes_eq name (codes "load") then option_map edit (load_of d)
     else (if bytes_eq name (codes "insert") then option_map edit (insert_of d)
     else (if bytes_eq name (codes "remove") then option_map edit (remove_of d)
-    else (if bytes_eq name (codes "dump") then option_map query (dump_of d) else None)))
+    else (if bytes_eq name (codes "sheet") then option_map edit (sheet_of d)
+    else (if bytes_eq name (codes "dump") then option_map query (dump_of d)
+    else (if bytes_eq name (codes "rules") then option_map query (rules_of d) else None)))))
 
 -- the names of the requests that are not built yet
 abbrev pub names_not_built : List (List ℕ)
 names_not_built =
-    codes "sheet" ∷ codes "rules" ∷ codes "match" ∷ codes "style"
+    codes "match" ∷ codes "style"
     ∷ codes "resize" ∷ codes "move" ∷ codes "set-attr" ∷ codes "drop-attr" ∷ codes "set-text"
     ∷ codes "counts" ∷ []
 

@@ -1,18 +1,21 @@
 -- Which requests are refused, and the state that a line leaves.
-use Rattle.std.specs.Prelude.{ℕ, ◌&&◌, ◌||◌, List, [], ◌∷◌, ◌++◌, Bool, true, false, not, nat_lt, max, Option, Some, None, is_some, option_map, unwrap_or, codes}
+use Rattle.std.specs.Prelude.{ℕ, ◌&&◌, ◌||◌, List, [], ◌∷◌, ◌++◌, Bool, true, false, length, take, drop, suc, not, nat_lt, max, Option, Some, None, is_some, option_map, unwrap_or, codes}
+use Rattle.std.specs.List.{list_any}
 use Rattle.std.specs.Str.{bytes_eq}
-use Rattle.page_model.specs.Trees.{Tree, elem, characters, Trees, no_trees, tree, size}
+use Rattle.page_model.specs.Trees.{Text, Tree, elem, characters, Trees, no_trees, tree, size}
 use Rattle.page_model.specs.Document.{Document, document}
 use Rattle.page_model.specs.Refusals.{Causes, first_of}
 use Rattle.page_model.specs.Edits.{load_causes, insert_causes, remove_causes, document_after_insert, document_after_remove}
 use Rattle.page_model.specs.Pages.{Page, State}
 use Rattle.page_model.specs.declared.limits.TheConstants.{MAX_SIDE}
 use Rattle.page_model.specs.declared.cause.Cause.{Cause}
-use Rattle.page_model.specs.declared.cause.Cause.TheVariants.{NotLoaded, ViewportRange, NotBuilt}
+use Rattle.page_model.specs.declared.cause.Cause.TheVariants.{NotLoaded, ViewportRange, SheetLimit, NoSheet, NotBuilt}
+use Rattle.rules_model.specs.Sheets.{limit_of_sheet, style_rules_of}
+use Rattle.rules_model.specs.declared.limits.TheConstants.{MAX_SHEETS}
 use Rattle.request_model.specs.declared.query.Query.{Query}
-use Rattle.request_model.specs.declared.query.Query.TheVariants.{Dump}
+use Rattle.request_model.specs.declared.query.Query.TheVariants.{Dump, Rules}
 use Rattle.request_model.specs.declared.accepted.Accepted.{Accepted}
-use Rattle.request_model.specs.Requests.{Edit, load, insert, remove, Request, edit, query, Asked, nothing, broken, request}
+use Rattle.request_model.specs.Requests.{Edit, load, insert, remove, sheet, Request, edit, query, Asked, nothing, broken, request}
 
 -- ---- refusals
 
@@ -33,10 +36,10 @@ abbrev mutual
 
 -- the forms of a request in the grammar that are not built yet; they are refused before what is loaded is looked at
 abbrev pub form_causes : Request → Causes
-form_causes (edit (load width height doc sheets)) = (is_some sheets, NotBuilt)
-    ∷ (not (is_plain doc), NotBuilt) ∷ []
+form_causes (edit (load width height doc sheets)) = (not (is_plain doc), NotBuilt) ∷ []
 form_causes (edit (insert parent index new)) = (not (is_plain new), NotBuilt) ∷ []
 form_causes (edit (remove id)) = []
+form_causes (edit (sheet at css)) = []
 form_causes (query q) = []
 
 -- the causes to refuse what needs a page
@@ -44,16 +47,36 @@ abbrev pub needs_page : State → (Page → Causes) → Causes
 needs_page None causes = (true, NotLoaded) ∷ []
 needs_page (Some page) causes = causes page
 
+-- a text is above a limit of style sheets
+abbrev pub is_over_sheet_limit : Text → Bool
+is_over_sheet_limit css = is_some (limit_of_sheet css)
+
+-- there are too many sheets, or one is above a limit
+abbrev pub are_over_sheet_limits : List Text → Bool
+are_over_sheet_limits sheets = nat_lt MAX_SHEETS (length sheets) || list_any is_over_sheet_limit sheets
+
+-- why no sheet is put at this place, or none is taken out from there
+abbrev pub sheet_causes : ℕ → Option Text → List Text → Causes
+sheet_causes at (Some css) sheets =
+    (nat_lt (length sheets) at, NoSheet) ∷ (not (nat_lt at MAX_SHEETS) || is_over_sheet_limit css, SheetLimit) ∷ []
+sheet_causes at None sheets = (not (nat_lt at (length sheets)), NoSheet) ∷ []
+
 -- why an edit is refused, in the order in which this is asked
 abbrev pub edit_causes : State → Edit → Causes
 edit_causes s (load width height doc sheets) =
-    (nat_lt MAX_SIDE width || nat_lt MAX_SIDE height, ViewportRange) ∷ load_causes doc
+    (nat_lt MAX_SIDE width || nat_lt MAX_SIDE height, ViewportRange)
+    ∷ (are_over_sheet_limits (unwrap_or sheets []), SheetLimit) ∷ load_causes doc
 edit_causes s (insert parent index new) = needs_page s (λ page. insert_causes parent index new page.document)
 edit_causes s (remove id) = needs_page s (λ page. remove_causes id page.document)
+edit_causes s (sheet at css) = needs_page s (λ page. sheet_causes at css page.sheets)
+
+abbrev pub has_style_rule : Text → Bool
+has_style_rule css = not (is_empty (style_rules_of css))
 
 -- why a query is refused, whatever its assignment is
 abbrev pub query_causes : State → Query → Causes
-query_causes s Dump = needs_page s (λ _. [])
+query_causes s Dump = needs_page s (λ page. (list_any has_style_rule page.sheets, NotBuilt) ∷ [])
+query_causes s Rules = needs_page s (λ _. [])
 
 abbrev pub request_causes : State → Request → Causes
 request_causes s (edit e) = edit_causes s e
@@ -70,6 +93,23 @@ abbrev pub with_document : (Document → Document) → Page → Page
 with_document change page =
     record { document = change page.document; sheets = page.sheets; viewport = page.viewport }
 
+-- the same document and viewport, with other sheets
+abbrev pub with_sheets : (List Text → List Text) → Page → Page
+with_sheets change page =
+    record { document = page.document; sheets = change page.sheets; viewport = page.viewport }
+
+-- the sheets in which this text is at the place: instead of the one that is there, or behind all
+abbrev pub sheets_with : ℕ → Text → List Text → List Text
+sheets_with at css sheets = take at sheets ++ css ∷ drop (suc at) sheets
+
+-- the sheets without the one at the place; later ones move down
+abbrev pub sheets_without : ℕ → List Text → List Text
+sheets_without at sheets = take at sheets ++ drop (suc at) sheets
+
+abbrev pub sheets_after : ℕ → Option Text → List Text → List Text
+sheets_after at (Some css) sheets = sheets_with at css sheets
+sheets_after at None sheets = sheets_without at sheets
+
 -- what is loaded after an edit that is not refused
 abbrev pub state_after_edit : State → Edit → State
 state_after_edit s (load width height doc sheets) =
@@ -81,6 +121,7 @@ state_after_edit s (load width height doc sheets) =
 state_after_edit s (insert parent index new) =
     option_map (with_document (document_after_insert parent index new)) s
 state_after_edit s (remove id) = option_map (with_document (document_after_remove id)) s
+state_after_edit s (sheet at css) = option_map (with_sheets (sheets_after at css)) s
 
 -- the id that the next new node gets
 abbrev pub next_id : State → ℕ
@@ -92,12 +133,14 @@ abbrev pub brings_tree : Edit → Bool
 brings_tree (load width height doc sheets) = true
 brings_tree (insert parent index new) = true
 brings_tree (remove id) = false
+brings_tree (sheet at css) = false
 
 -- the first new id and the number of new nodes of an edit that is not refused
 abbrev pub accepted_by : State → Edit → Accepted
 accepted_by s (load width height doc sheets) = record { first = 0; count = size doc }
 accepted_by s (insert parent index new) = record { first = next_id s; count = size new }
 accepted_by s (remove id) = record { first = 0; count = 0 }
+accepted_by s (sheet at css) = record { first = 0; count = 0 }
 
 -- ---- lines
 
@@ -122,14 +165,14 @@ answer_to s (request q) = answer_by q (refusal_of s q)
 -- the number of logs that a request begins which is carried out
 abbrev pub logs_of : Request → ℕ
 logs_of (edit e) = 1
-logs_of (query Dump) = 0
+logs_of (query q) = 0
 
 -- the number of logs that is begun by what is refused: an edit in the grammar begins one
 abbrev pub logs_of_refused : Asked → ℕ
 logs_of_refused nothing = 0
 logs_of_refused (broken c) = 0
 logs_of_refused (request (edit e)) = 1
-logs_of_refused (request (query Dump)) = 0
+logs_of_refused (request (query q)) = 0
 
 -- the most logs that are begun by what a line asks for
 abbrev pub most_logs : Asked → ℕ

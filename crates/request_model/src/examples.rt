@@ -25,8 +25,6 @@ pub fn examples_of_causes()
     ensures attribute_not_built { refusal_of None
         (edit (load 1 1 (elem (codes "div") ((codes "a", []) ∷ []) no_trees) None))
         ≡ Some NotBuilt }
-    ensures sheets_not_built { refusal_of None
-        (edit (load 1 1 (elem (codes "div") [] no_trees) (Some []))) ≡ Some NotBuilt }
     ensures side { refusal_of None (edit (load 1 10001 (elem (codes "div") [] no_trees) None))
         ≡ Some ViewportRange }
     ensures other_side { refusal_of None (edit (load 10001 1 (elem (codes "div") [] no_trees) None))
@@ -115,11 +113,11 @@ pub fn examples_of_requests()
         (member (codes "width") (number (unsigned 1)) no_members)))))))
         ≡ broken BadRequest }
     ensures names_not_built { list_all is_name_not_built
-        (codes "sheet" ∷ codes "rules" ∷ codes "match" ∷ codes "style" ∷ codes "resize" ∷ codes "move"
+        (codes "match" ∷ codes "style" ∷ codes "resize" ∷ codes "move"
         ∷ codes "set-attr" ∷ codes "drop-attr" ∷ codes "set-text" ∷ codes "counts" ∷ [])
         ≡ true }
     ensures names_built { list_any is_name_not_built
-        (codes "load" ∷ codes "insert" ∷ codes "remove" ∷ codes "dump" ∷ [])
+        (codes "load" ∷ codes "insert" ∷ codes "remove" ∷ codes "sheet" ∷ codes "dump" ∷ codes "rules" ∷ [])
         ≡ false }
     ensures insert_with_another { asked_of (Some (object (member (codes "a") null
         (member (codes "do") (string (codes "insert"))

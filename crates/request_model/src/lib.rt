@@ -6,9 +6,14 @@
 mod accepted;
 mod examples;
 mod query;
+mod sheet_examples;
 
 pub use accepted::Accepted;
 pub use examples::{
     examples_of_asking, examples_of_causes, examples_of_requests, examples_of_states,
 };
 pub use query::Query;
+pub use sheet_examples::{
+    examples_of_asking_for_sheets, examples_of_dumps_with_sheets, examples_of_loaded_sheets,
+    examples_of_sheet_causes, examples_of_sheets, examples_of_style_rules,
+};

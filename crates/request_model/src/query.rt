@@ -5,4 +5,6 @@
 pub enum Query {
     /// A dump: the box of each element.
     Dump,
+    /// The style rules of all sheets.
+    Rules,
 }

@@ -54,12 +54,23 @@ fn is_remove_of_last(edit: &Edit) -> bool {
     matches!(edit, Edit::Remove { id } if *id == u64::MAX)
 }
 
+/// Returns whether sheet 0 was asked to be `a{}`.
+fn is_sheet_of_text(edit: &Edit) -> bool {
+    matches!(edit, Edit::Sheet { at, css: Some(text) } if *at == 0 && text.as_str() == "a{}")
+}
+
+/// Returns whether sheet 7 was asked to be taken out.
+fn is_sheet_of_null(edit: &Edit) -> bool {
+    matches!(edit, Edit::Sheet { at, css: None } if *at == 7)
+}
+
 /// Returns what a line asks for.
 fn name_of(asked: &Asked) -> &'static str {
     match asked {
         Asked::Nothing => "nothing",
         Asked::Broken(_) => "broken",
         Asked::Request(Request::Query(Query::Dump)) => "dump",
+        Asked::Request(Request::Query(Query::Rules)) => "rules",
         Asked::Request(Request::Edit(edit)) => name_of_edit(edit),
     }
 }
@@ -72,6 +83,10 @@ fn name_of_edit(edit: &Edit) -> &'static str {
         "insert of a text"
     } else if is_remove_of_last(edit) {
         "remove of the last number"
+    } else if is_sheet_of_text(edit) {
+        "sheet of a text"
+    } else if is_sheet_of_null(edit) {
+        "sheet of null"
     } else {
         "another edit"
     }
@@ -91,6 +106,10 @@ const INSERT: &[u8] = br#"{"do":"insert","tree":"","index":3,"parent":2}"#;
 
 const REMOVE: &[u8] = br#"{"id":18446744073709551615,"do":"remove"}"#;
 
+const SHEET: &[u8] = br#"{"css":"a{}","at":0,"do":"sheet"}"#;
+
+const NO_SHEET: &[u8] = br#"{"do":"sheet","at":7,"css":null}"#;
+
 #[test]
 fn lines_ask(rt: HostRuntime) -> Result<(), Fail> {
     expect_asked(&rt, rt.alloc(), b" \t\r", "nothing")?;
@@ -98,6 +117,9 @@ fn lines_ask(rt: HostRuntime) -> Result<(), Fail> {
     expect_asked(&rt, rt.alloc(), LOAD, "load of two sheets")?;
     expect_asked(&rt, rt.alloc(), INSERT, "insert of a text")?;
     expect_asked(&rt, rt.alloc(), REMOVE, "remove of the last number")?;
+    expect_asked(&rt, rt.alloc(), SHEET, "sheet of a text")?;
+    expect_asked(&rt, rt.alloc(), NO_SHEET, "sheet of null")?;
+    expect_asked(&rt, rt.alloc(), br#"{"do":"rules"}"#, "rules")?;
     Ok(())
 }
 
@@ -116,6 +138,12 @@ fn lines_are_refused(rt: HostRuntime) -> Result<(), Fail> {
         &rt,
         rt.alloc(),
         br#"{"do":"insert","parent":0,"index":0}"#,
+        Cause::BadRequest,
+    )?;
+    expect_broken(
+        &rt,
+        rt.alloc(),
+        br#"{"do":"sheet","at":0}"#,
         Cause::BadRequest,
     )?;
     expect_broken(

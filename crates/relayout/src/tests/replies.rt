@@ -61,7 +61,7 @@ const ROWS: [(&[u8], &[u8]); 36] = [
     ),
     (
         br#"{"do":"load","width":1,"height":1,"doc":["div"],"sheets":[]}"#,
-        b"error 21 not-built\n",
+        b"ok 0 1\n",
     ),
     (
         br#"{"do":"load","width":1,"height":1,"doc":["div","text"]}"#,
