@@ -1,0 +1,8 @@
+//! Selectors: read from component values, matched against elements.
+#![tactic(auto)]
+
+mod rules;
+mod selector;
+
+pub use rules::Rule;
+pub use selector::{Compound, Link, Selector, SelectorList, Simple};
