@@ -8,12 +8,12 @@ use Rattle.conditions_model.specs.declared.comparison.Comparison.{Comparison}
 use Rattle.conditions_model.specs.declared.comparison.Comparison.TheVariants.{LessThan, AtMost, EqualTo, AtLeast, MoreThan}
 use Rattle.conditions_model.specs.declared.feature_name.FeatureName.{FeatureName}
 use Rattle.conditions_model.specs.declared.feature_name.FeatureName.TheVariants.{Height, Orientation}
-use Rattle.conditions_model.specs.declared.length_bases.Bases.{Bases}
+use Rattle.value_model.specs.declared.length_unit.Bases.{Bases}
 use Rattle.conditions_model.specs.declared.orientation.Orientation.{Orientation as OrientationValue}
 use Rattle.conditions_model.specs.declared.orientation.Orientation.TheVariants.{Portrait, Landscape}
 use Rattle.conditions_model.specs.declared.tri.Tri.{Tri}
 use Rattle.conditions_model.specs.TriTables.{tri}
-use Rattle.conditions_model.specs.Lengths.{length_value}
+use Rattle.value_model.specs.Lengths.{length_value}
 use Rattle.conditions_model.specs.SizeFeatures.{FeatureValue, length_value as a_length, ratio_value, Bound, SizeFeature, boolean, orientation_is, bounded}
 
 -- what features are judged on: a width and a height, in units, and what lengths refer to

@@ -2,7 +2,6 @@ pub mod TriTables
 pub mod ConditionTrees
 pub mod ConditionWords
 pub mod Conditions
-pub mod Lengths
 pub mod SizeFeatures
 pub mod FeatureValues
 pub mod MediaQueries

@@ -18,7 +18,7 @@ use Rattle.conditions_model.specs.declared.orientation.Orientation.{Orientation 
 use Rattle.conditions_model.specs.declared.orientation.Orientation.TheVariants.{Portrait, Landscape}
 use Rattle.conditions_model.specs.ConditionWords.{is_keyword}
 use Rattle.conditions_model.specs.Conditions.{is_round_type}
-use Rattle.conditions_model.specs.Lengths.{Length, length_of}
+use Rattle.value_model.specs.Lengths.{Length, length_of}
 
 -- what a feature is compared with: a length, or a ratio in millionths
 pub data FeatureValue : Type 0 where

@@ -7,14 +7,12 @@
 mod comparison;
 pub mod examples;
 mod feature_name;
-mod length_bases;
 mod media_type;
 mod orientation;
 mod tri;
 
 pub use comparison::Comparison;
 pub use feature_name::FeatureName;
-pub use length_bases::{Bases, LengthBase};
 pub use media_type::MediaType;
 pub use orientation::Orientation;
 pub use tri::Tri;

@@ -6,15 +6,16 @@ use Rattle.page_model.specs.declared.viewport.Viewport.{Viewport}
 use Rattle.rules_model.specs.ComponentLists.{ident_of}
 use Rattle.rules_model.specs.Sheets.{components_of}
 use Rattle.conditions_model.specs.declared.comparison.Comparison.{Comparison}
-use Rattle.conditions_model.specs.declared.length_bases.Bases.{Bases}
+use Rattle.value_model.specs.declared.length_unit.Bases.{Bases}
 use Rattle.conditions_model.specs.declared.tri.Tri.{Tri}
 use Rattle.conditions_model.specs.ConditionTrees.{ConditionTree, feature, ConditionTrees, no_conditions, condition}
 use Rattle.conditions_model.specs.Conditions.{condition_of, is_round_type}
-use Rattle.conditions_model.specs.Lengths.{Length, LengthUnit, length_of, length_value as value_of_length, unit}
+use Rattle.value_model.specs.declared.length_unit.LengthUnit.{LengthUnit}
+use Rattle.value_model.specs.Lengths.{Length, dimension, length_of, length_value as value_of_length, unit}
 use Rattle.conditions_model.specs.MediaQueries.{MediaQuery, media_matches, media_names, queries_of, query_of, query_value}
 use Rattle.conditions_model.specs.SizeFeatures.{Bound, FeatureValue, length_value, SizeFeature, boolean, feature_of, only_component, ratio_value}
 use Rattle.conditions_model.specs.declared.feature_name.FeatureName.TheVariants.{Width, Height}
-use Rattle.conditions_model.specs.declared.length_bases.LengthBase.TheVariants.{Pixel}
+use Rattle.value_model.specs.declared.length_unit.LengthBase.TheVariants.{Pixel}
 
 -- ---- conditions
 
@@ -62,7 +63,7 @@ bound comparison value = record { comparison = comparison; value = value }
 -- ---- lengths
 
 abbrev pub length : ℤ → LengthUnit → FeatureValue
-length millionths unit = length_value (record { millionths = millionths; unit = unit })
+length millionths unit = length_value (dimension millionths unit)
 
 -- a length in pixels
 abbrev pub px : ℕ → FeatureValue

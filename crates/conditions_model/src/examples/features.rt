@@ -1,9 +1,9 @@
 //! Features in their forms (Media Queries 4, sections 2.4 and 4.1 to 4.4).
-ghost use Rattle.conditions_model.specs.Lengths.{unit};
+ghost use Rattle.value_model.specs.Lengths.{unit};
 ghost use Rattle.conditions_model.specs.SizeFeatures.{boolean, bounded, orientation_is};
 ghost use Rattle.conditions_model.specs.declared.comparison.Comparison.TheVariants.{LessThan, AtMost, EqualTo, AtLeast, MoreThan};
 ghost use Rattle.conditions_model.specs.declared.feature_name.FeatureName.TheVariants.{Width, Height, AspectRatio, Orientation};
-ghost use Rattle.conditions_model.specs.declared.length_bases.LengthBase.TheVariants.{Pixel, Em};
+ghost use Rattle.value_model.specs.declared.length_unit.LengthBase.TheVariants.{Pixel, Em};
 ghost use Rattle.conditions_model.specs.declared.orientation.Orientation.TheVariants.{Landscape, Portrait};
 ghost use Rattle.conditions_model.specs.inner.Examples.{bound, length, media_feature, px, ratio};
 ghost use Rattle.std.specs.Prelude.{◌≡◌, ◌∷◌, [], None, Some, codes, neg_ℤ, pos};

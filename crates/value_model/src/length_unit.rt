@@ -1,4 +1,4 @@
-//! What relative lengths refer to (CSS Values 4, section 6; CSS Conditional 5, section 7).
+//! Units of length, and what they refer to (CSS Values 4, section 6; CSS Conditional 5, section 7).
 use units64::Units;
 
 /// What a unit of length refers to.
@@ -26,6 +26,17 @@ pub enum LengthBase {
     Cqmin,
     /// The larger of the two.
     Cqmax,
+}
+
+/// A unit of length: this quotient of what it refers to.
+#[derive(Clone, Copy, Debug, PartialEq, Eq)]
+pub struct LengthUnit {
+    /// What it refers to.
+    pub base: LengthBase,
+    /// The numerator, at most 9,600.
+    pub numerator: u16,
+    /// The denominator, from 1 to 254.
+    pub denominator: u16,
 }
 
 /// The lengths that relative lengths refer to.

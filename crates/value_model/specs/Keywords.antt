@@ -1,0 +1,46 @@
+-- The keywords of values, by their names.
+use Rattle.std.specs.Prelude.{codes}
+use Rattle.css_model.specs.Classes.{Text}
+use Rattle.value_model.specs.declared.keyword.Keyword.{Keyword}
+use Rattle.value_model.specs.declared.keyword.Keyword.TheVariants.{Auto, None as NoneKeyword, Block, Inline, InlineBlock, FlowRoot, Thin, Medium, Thick, Hidden, Dotted, Dashed, Solid, Double, Groove, Ridge, Inset, Outset, ContentBox, BorderBox, Normal, Left, Right, Center, Start, End, Nowrap, Visible, Scroll, InlineSize, Size, Collapse, Italic, Oblique, Bold, Underline, Overline, LineThrough}
+
+-- how a keyword is written
+abbrev pub keyword_text : Keyword → Text
+keyword_text Auto = codes "auto"
+keyword_text NoneKeyword = codes "none"
+keyword_text Block = codes "block"
+keyword_text Inline = codes "inline"
+keyword_text InlineBlock = codes "inline-block"
+keyword_text FlowRoot = codes "flow-root"
+keyword_text Thin = codes "thin"
+keyword_text Medium = codes "medium"
+keyword_text Thick = codes "thick"
+keyword_text Hidden = codes "hidden"
+keyword_text Dotted = codes "dotted"
+keyword_text Dashed = codes "dashed"
+keyword_text Solid = codes "solid"
+keyword_text Double = codes "double"
+keyword_text Groove = codes "groove"
+keyword_text Ridge = codes "ridge"
+keyword_text Inset = codes "inset"
+keyword_text Outset = codes "outset"
+keyword_text ContentBox = codes "content-box"
+keyword_text BorderBox = codes "border-box"
+keyword_text Normal = codes "normal"
+keyword_text Left = codes "left"
+keyword_text Right = codes "right"
+keyword_text Center = codes "center"
+keyword_text Start = codes "start"
+keyword_text End = codes "end"
+keyword_text Nowrap = codes "nowrap"
+keyword_text Visible = codes "visible"
+keyword_text Scroll = codes "scroll"
+keyword_text InlineSize = codes "inline-size"
+keyword_text Size = codes "size"
+keyword_text Collapse = codes "collapse"
+keyword_text Italic = codes "italic"
+keyword_text Oblique = codes "oblique"
+keyword_text Bold = codes "bold"
+keyword_text Underline = codes "underline"
+keyword_text Overline = codes "overline"
+keyword_text LineThrough = codes "line-through"

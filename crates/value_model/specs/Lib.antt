@@ -1,0 +1,9 @@
+pub mod Lengths
+pub mod Colors
+pub mod Keywords
+pub mod Values
+pub mod Forms
+pub mod Properties
+pub mod Grammar
+pub mod Shorthands
+pub mod Computing
