@@ -3,7 +3,6 @@
 
 pub mod conditions;
 pub mod features;
-pub mod lengths;
 pub mod queries;
 pub mod tables;
 pub mod values;

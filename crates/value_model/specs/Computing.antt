@@ -1,5 +1,5 @@
 -- What declared values compute to (CSS Cascade 4, section 4.4; the modules of each property).
-use Rattle.std.specs.Prelude.{ℕ, ℤ, pos, ◌*ℤ◌}
+use Rattle.std.specs.Prelude.{ℤ, pos}
 use Rattle.std.specs.Int.{int_min, int_max}
 use Rattle.value_model.specs.declared.keyword.Keyword.{Keyword}
 use Rattle.value_model.specs.declared.keyword.Keyword.TheVariants.{Thin, Medium, Thick, Bold, Start, End, Left, Right}

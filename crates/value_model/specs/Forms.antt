@@ -1,7 +1,7 @@
 -- The forms of values that are one component value or a list of words, as grammars of properties name
 -- them (CSS Values 4, sections 2, 4 and 5).
-use Rattle.std.specs.Prelude.{ℕ, ℤ, pos, ◌&&◌, ◌||◌, not, int_le, int_lt, int_div, if◌then◌else◌, List, [], ◌∷◌, codes, Option, Some, None, option_map, option_and_then, unwrap_or, Bool, true, false}
-use Rattle.std.specs.List.{list_all, list_any, find}
+use Rattle.std.specs.Prelude.{ℕ, ℤ, pos, ◌&&◌, ◌||◌, not, int_le, int_div, if◌then◌else◌, List, [], ◌∷◌, codes, Option, Some, None, option_map, option_and_then, unwrap_or, Bool, true, false}
+use Rattle.std.specs.List.{list_any, find}
 use Rattle.std.specs.Map.{lookup}
 use Rattle.std.specs.Option.{option_or}
 use Rattle.std.specs.Str.{str_eq_ignore_ascii_case}
@@ -87,7 +87,11 @@ value_of_one container_names c = None
 
 abbrev pub contained : Bool → Bool → Bool → Bool → Bool → Containment
 contained size inline_size layout style paint = record {
-  size = size; inline_size = inline_size; layout = layout; style = style; paint = paint;
+  size = size;
+  inline_size = inline_size;
+  layout = layout;
+  style = style;
+  paint = paint;
 }
 
 abbrev pub nothing_contained : Containment

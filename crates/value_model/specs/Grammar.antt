@@ -1,6 +1,6 @@
 -- Which value component values are of a property (CSS Syntax 3, section 5.4.6; CSS Cascade 4, section
 -- 7.3; the modules of each property).
-use Rattle.std.specs.Prelude.{if◌then◌else◌, List, [], ◌∷◌, codes, Option, Some, None, option_map, option_and_then, Bool}
+use Rattle.std.specs.Prelude.{if◌then◌else◌, List, [], ◌∷◌, codes, Option, None, option_map, option_and_then, Bool}
 use Rattle.std.specs.List.{find}
 use Rattle.std.specs.Map.{lookup}
 use Rattle.std.specs.Option.{option_or}
@@ -13,7 +13,7 @@ use Rattle.value_model.specs.declared.prop.Prop.TheVariants.{Width, Height, MinW
 use Rattle.value_model.specs.declared.wide_keyword.WideKeyword.{WideKeyword}
 use Rattle.value_model.specs.declared.wide_keyword.WideKeyword.TheVariants.{Inherit, Initial, Unset, Revert}
 use Rattle.value_model.specs.Forms.{Form, value_of_form}
-use Rattle.value_model.specs.Properties.{Property, property, properties}
+use Rattle.value_model.specs.Properties.{property, properties}
 use Rattle.value_model.specs.Values.{Value, wide_keyword}
 
 -- ---- names

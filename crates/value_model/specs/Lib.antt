@@ -7,3 +7,4 @@ pub mod Properties
 pub mod Grammar
 pub mod Shorthands
 pub mod Computing
+pub mod inner

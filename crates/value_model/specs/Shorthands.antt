@@ -62,12 +62,18 @@ abbrev pub shorthands : List (Text × Shorthand)
 shorthands =
     (codes "margin", four_sides MarginTop MarginRight MarginBottom MarginLeft)
     ∷ (codes "padding", four_sides PaddingTop PaddingRight PaddingBottom PaddingLeft)
-    ∷ (codes "border-width",
-       four_sides BorderTopWidth BorderRightWidth BorderBottomWidth BorderLeftWidth)
-    ∷ (codes "border-style",
-       four_sides BorderTopStyle BorderRightStyle BorderBottomStyle BorderLeftStyle)
-    ∷ (codes "border-color",
-       four_sides BorderTopColor BorderRightColor BorderBottomColor BorderLeftColor)
+    ∷ (
+      codes "border-width",
+      four_sides BorderTopWidth BorderRightWidth BorderBottomWidth BorderLeftWidth,
+    )
+    ∷ (
+      codes "border-style",
+      four_sides BorderTopStyle BorderRightStyle BorderBottomStyle BorderLeftStyle,
+    )
+    ∷ (
+      codes "border-color",
+      four_sides BorderTopColor BorderRightColor BorderBottomColor BorderLeftColor,
+    )
     ∷ (codes "border", borders (top_border ∷ right_border ∷ bottom_border ∷ left_border ∷ []))
     ∷ (codes "border-top", borders (top_border ∷ []))
     ∷ (codes "border-right", borders (right_border ∷ []))

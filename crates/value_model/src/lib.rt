@@ -7,6 +7,7 @@
 
 mod color;
 mod containment;
+pub mod examples;
 mod keyword;
 mod length_unit;
 mod prop;

@@ -6,12 +6,11 @@ use Rattle.page_model.specs.declared.viewport.Viewport.{Viewport}
 use Rattle.rules_model.specs.ComponentLists.{ident_of}
 use Rattle.rules_model.specs.Sheets.{components_of}
 use Rattle.conditions_model.specs.declared.comparison.Comparison.{Comparison}
-use Rattle.value_model.specs.declared.length_unit.Bases.{Bases}
 use Rattle.conditions_model.specs.declared.tri.Tri.{Tri}
 use Rattle.conditions_model.specs.ConditionTrees.{ConditionTree, feature, ConditionTrees, no_conditions, condition}
 use Rattle.conditions_model.specs.Conditions.{condition_of, is_round_type}
 use Rattle.value_model.specs.declared.length_unit.LengthUnit.{LengthUnit}
-use Rattle.value_model.specs.Lengths.{Length, dimension, length_of, length_value as value_of_length, unit}
+use Rattle.value_model.specs.Lengths.{dimension, unit}
 use Rattle.conditions_model.specs.MediaQueries.{MediaQuery, media_matches, media_names, queries_of, query_of, query_value}
 use Rattle.conditions_model.specs.SizeFeatures.{Bound, FeatureValue, length_value, SizeFeature, boolean, feature_of, only_component, ratio_value}
 use Rattle.conditions_model.specs.declared.feature_name.FeatureName.TheVariants.{Width, Height}
@@ -72,20 +71,6 @@ px n = length (pos (n * 1000000)) (unit Pixel 1 1)
 -- a ratio of two whole numbers
 abbrev pub ratio : ℕ → ℕ → FeatureValue
 ratio across down = ratio_value (pos (across * 1000000)) (pos (down * 1000000))
-
--- the length of the first component value of a text
-abbrev pub first_length : Components → Option Length
-first_length (component c cs) = length_of c
-first_length other = None
-
--- bases that tell units apart: the font sizes 10 and 20 pixels, a viewport of 1,000 by 500 pixels, and
--- a container of 300 by 400
-abbrev pub bases : Bases
-bases = record { em = pos 640; rem = pos 1280; vw = pos 64000; vh = pos 32000; cqw = pos 19200; cqh = pos 25600 }
-
--- the value of a length in millionths of a pixel
-abbrev pub millionths : Text → Option ℤ
-millionths text = option_map (value_of_length bases) (first_length (components_of text))
 
 -- ---- queries
 

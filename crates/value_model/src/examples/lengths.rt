@@ -1,6 +1,7 @@
 //! Lengths and their values (CSS Values 4, sections 5 and 6; CSS Conditional 5, section 7). The font
 //! sizes are 10 and 20 pixels, the viewport 1,000 by 500, the container 300 by 400.
-ghost use Rattle.conditions_model.specs.inner.Examples.{millionths};
+ghost use Rattle.value_model.specs.inner.Examples.{in_length, millionths};
+ghost use Rattle.value_model.specs.Lengths.{in_percent, in_units, used_length};
 ghost use Rattle.std.specs.Prelude.{◌≡◌, None, Some, codes, neg_ℤ, pos};
 
 /// Absolute lengths: one exact quotient, truncated towards zero.
@@ -64,4 +65,29 @@ pub fn no_length()
     ensures a_word { millionths (codes "px") ≡ None }
     ensures a_block { millionths (codes "(1px)") ≡ None }
     ensures nothing { millionths (codes "") ≡ None }
+{}
+
+/// Computed lengths: in units, truncated towards zero and clamped; percentages stay.
+#[tactic(auto, unfolding(css_model::specs::inner::Nesting::levels_of, css_model::specs::inner::Pieces::pieces_after, css_model::specs::inner::Fronts::parts_after))]
+pub fn computed()
+    ensures px { in_length (codes "1px") ≡ Some (in_units (pos 64)) }
+    ensures one_unit { in_length (codes "0.015625px") ≡ Some (in_units (pos 1)) }
+    ensures below_one_unit { in_length (codes "0.015624px") ≡ Some (in_units (pos 0)) }
+    ensures towards_zero { in_length (codes "-0.03px") ≡ Some (in_units (neg_ℤ (pos 1))) }
+    ensures greatest { in_length (codes "16777216px") ≡ Some (in_units (pos 1073741824)) }
+    ensures clamped { in_length (codes "16777217px") ≡ Some (in_units (pos 1073741824)) }
+    ensures clamped_below { in_length (codes "-1e9px") ≡ Some (in_units (neg_ℤ (pos 1073741824))) }
+    ensures percent { in_length (codes "12.5%") ≡ Some (in_percent (pos 12500000)) }
+    ensures negative_percent { in_length (codes "-1%") ≡ Some (in_percent (neg_ℤ (pos 1000000))) }
+    ensures number { in_length (codes "1") ≡ None }
+{}
+
+/// Used lengths: a percentage of a base is one exact quotient in millionths, truncated towards zero.
+pub fn used()
+    ensures units { used_length (in_units (pos 65)) (pos 6400) ≡ pos 1015625 }
+    ensures half { used_length (in_percent (pos 50000000)) (pos 64) ≡ pos 500000 }
+    ensures third { used_length (in_percent (pos 33333333)) (pos 1) ≡ pos 5208 }
+    ensures negative { used_length (in_percent (neg_ℤ (pos 33333333))) (pos 1) ≡ neg_ℤ (pos 5208) }
+    ensures of_a_negative_base { used_length (in_percent (pos 1000000)) (neg_ℤ (pos 64)) ≡ neg_ℤ (pos 10000) }
+    ensures clamped { used_length (in_percent (pos 1000000000000000)) (pos 1073741824) ≡ pos 1000000000000000 }
 {}

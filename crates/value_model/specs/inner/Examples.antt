@@ -1,0 +1,68 @@
+-- Words of the examples: values of texts.
+use Rattle.std.specs.Prelude.{ℕ, ℤ, pos, List, filter, map, Option, None, option_map, option_and_then, Bool, is_some}
+use Rattle.css_model.specs.Classes.{Text}
+use Rattle.css_model.specs.Components.{Component, Components, component}
+use Rattle.rules_model.specs.Sheets.{components_of}
+use Rattle.value_model.specs.declared.color.Color.{Color}
+use Rattle.value_model.specs.declared.length_unit.Bases.{Bases}
+use Rattle.value_model.specs.declared.prop.Prop.{Prop}
+use Rattle.value_model.specs.Colors.{color_of}
+use Rattle.value_model.specs.Computing.{computed}
+use Rattle.value_model.specs.Grammar.{value_of}
+use Rattle.value_model.specs.Lengths.{ComputedLength, computed_length, in_units, length_of, length_or_percentage_of, length_value}
+use Rattle.value_model.specs.Properties.{property, properties}
+use Rattle.value_model.specs.Shorthands.{Longhand, expansion_of, shorthand_of_name}
+use Rattle.value_model.specs.Values.{Value, Final, length}
+
+-- bases that tell units apart: the font sizes 10 and 20 pixels, a viewport of 1,000 by 500 pixels, and
+-- a container of 300 by 400
+abbrev pub bases : Bases
+bases = record { em = pos 640; rem = pos 1280; vw = pos 64000; vh = pos 32000; cqw = pos 19200; cqh = pos 25600 }
+
+-- what a reader finds in the first component value of a text
+abbrev pub first : {X : Type 0} → (Component → Option X) → Components → Option X
+first read (component c cs) = read c
+first read other = None
+
+-- the value of a length in millionths of a pixel
+abbrev pub millionths : Text → Option ℤ
+millionths text = option_map (length_value bases) (first length_of (components_of text))
+
+-- a length or percentage as it is computed
+abbrev pub in_length : Text → Option ComputedLength
+in_length text = option_map (computed_length bases) (first length_or_percentage_of (components_of text))
+
+abbrev pub color_in : Text → Option Color
+color_in text = first color_of (components_of text)
+
+-- the value of a property as it is declared
+abbrev pub declared : Prop → Text → Option Value
+declared p text = value_of p (components_of text)
+
+-- and as it is computed, below a parent with a font size of 30 pixels
+abbrev pub final : Prop → Text → Option Final
+final p text = option_map (λ v. computed p v bases (pos 1920)) (declared p text)
+
+abbrev pub is_right : Prop → Text → Bool
+is_right p text = is_some (declared p text)
+
+-- the declarations of a shorthand
+abbrev pub declarations : Text → Text → Option (List Longhand)
+declarations name text = option_and_then (λ s. expansion_of s (components_of text)) (shorthand_of_name name)
+
+-- the computed values that a shorthand gives
+abbrev pub finals_of : List Longhand → List (Prop × Final)
+finals_of longhands = map (λ l. (l.0, computed l.0 l.1 bases (pos 1920))) longhands
+
+abbrev pub finals : Text → Text → Option (List (Prop × Final))
+finals name text = option_map finals_of (declarations name text)
+
+-- a length in units
+abbrev pub units : ℕ → Final
+units n = length (in_units (pos n))
+
+abbrev pub initial_value : Prop → Final
+initial_value p = (property p).initial
+
+abbrev pub inherited_properties : List Prop
+inherited_properties = filter (λ p. (property p).is_inherited) properties
