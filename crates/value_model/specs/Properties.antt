@@ -1,6 +1,6 @@
 -- The properties: their names, the forms of their values, their initial values, and whether they are
 -- inherited (CSS Cascade 4, sections 7.1 and 7.2; the modules of each property).
-use Rattle.std.specs.Prelude.{ℕ, ◌*ℤ◌, pos, List, [], ◌∷◌, codes, Bool, true, false}
+use Rattle.std.specs.Prelude.{ℕ, ◌*ℤ◌, ◌==◌, pos, List, [], ◌∷◌, codes, Bool, true, false}
 use Rattle.units64.specs.declared.constants.TheConstants.{UNITS_PER_PIXEL}
 use Rattle.css_model.specs.Classes.{Text}
 use Rattle.value_model.specs.declared.color.Color.TheVariants.{CurrentColor, Rgba as AnRgba}
@@ -136,3 +136,56 @@ properties =
     Color ∷ BackgroundColor ∷ TextAlign ∷ WhiteSpace ∷ Overflow ∷ Contain ∷ ContainerType ∷
     ContainerName ∷ Visibility ∷ Opacity ∷ FontStyle ∷ FontWeight ∷ ZIndex ∷ TextDecorationLine ∷
     PointerEvents ∷ []
+
+-- ---- places
+
+-- the place of a property in this order, from 0
+abbrev pub prop_place : Prop → ℕ
+prop_place Display = 0
+prop_place Width = 1
+prop_place Height = 2
+prop_place MinWidth = 3
+prop_place MinHeight = 4
+prop_place MaxWidth = 5
+prop_place MaxHeight = 6
+prop_place MarginTop = 7
+prop_place MarginRight = 8
+prop_place MarginBottom = 9
+prop_place MarginLeft = 10
+prop_place PaddingTop = 11
+prop_place PaddingRight = 12
+prop_place PaddingBottom = 13
+prop_place PaddingLeft = 14
+prop_place BorderTopWidth = 15
+prop_place BorderRightWidth = 16
+prop_place BorderBottomWidth = 17
+prop_place BorderLeftWidth = 18
+prop_place BorderTopStyle = 19
+prop_place BorderRightStyle = 20
+prop_place BorderBottomStyle = 21
+prop_place BorderLeftStyle = 22
+prop_place BorderTopColor = 23
+prop_place BorderRightColor = 24
+prop_place BorderBottomColor = 25
+prop_place BorderLeftColor = 26
+prop_place BoxSizing = 27
+prop_place FontSize = 28
+prop_place LineHeight = 29
+prop_place Color = 30
+prop_place BackgroundColor = 31
+prop_place TextAlign = 32
+prop_place WhiteSpace = 33
+prop_place Overflow = 34
+prop_place Contain = 35
+prop_place ContainerType = 36
+prop_place ContainerName = 37
+prop_place Visibility = 38
+prop_place Opacity = 39
+prop_place FontStyle = 40
+prop_place FontWeight = 41
+prop_place ZIndex = 42
+prop_place TextDecorationLine = 43
+prop_place PointerEvents = 44
+
+abbrev pub is_same_prop : Prop → Prop → Bool
+is_same_prop p q = prop_place p == prop_place q

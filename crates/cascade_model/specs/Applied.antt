@@ -1,0 +1,65 @@
+-- The declarations that apply to an element (CSS Cascade 4, section 4.1).
+use Rattle.std.specs.Prelude.{ℕ, List, [], ◌∷◌, ◌++◌, map, Option, Some, None, Bool, true, false}
+use Rattle.page_model.specs.Document.{Node}
+use Rattle.selectors_model.specs.declared.spec.Spec.{Spec}
+use Rattle.selectors_model.specs.Specificity.{spec, matching_specificity}
+use Rattle.value_model.specs.declared.prop.Prop.{Prop}
+use Rattle.value_model.specs.Values.{Value}
+use Rattle.cascade_model.specs.declared.origin.Origin.{Origin}
+use Rattle.cascade_model.specs.declared.origin.Origin.TheVariants.{Author}
+use Rattle.cascade_model.specs.Books.{BookRule}
+use Rattle.cascade_model.specs.Kept.{Kept}
+
+-- a rule that matches an element, and the specificity of its most specific selector that does
+pub record MatchedRule : Type 0 where
+  pub rule : BookRule
+  pub specificity : Spec
+
+abbrev pub in_front_of_matched : BookRule → Option Spec → List MatchedRule → List MatchedRule
+in_front_of_matched r None matched = matched
+in_front_of_matched r (Some s) matched = record { rule = r; specificity = s } ∷ matched
+
+-- the rules that match, in their order
+abbrev pub matched_rules : Node → ℕ → List BookRule → List MatchedRule
+matched_rules root i [] = []
+matched_rules root i (r ∷ rules) =
+    in_front_of_matched r (matching_specificity root r.selectors i) (matched_rules root i rules)
+
+-- a declaration that applies to an element
+pub record Applied : Type 0 where
+  pub origin : Origin
+  pub important : Bool
+  -- it stands in the element's `style` attribute
+  pub in_attribute : Bool
+  -- of the rule that it stands in
+  pub specificity : Spec
+  pub prop : Prop
+  pub value : Value
+
+abbrev pub applied_in_rule : MatchedRule → Kept → Applied
+applied_in_rule m k = record {
+  origin = m.rule.origin;
+  important = k.important;
+  in_attribute = false;
+  specificity = m.specificity;
+  prop = k.prop;
+  value = k.value;
+}
+
+abbrev pub applied_in_attribute : Kept → Applied
+applied_in_attribute k = record {
+  origin = Author;
+  important = k.important;
+  in_attribute = true;
+  specificity = spec 0 0 0;
+  prop = k.prop;
+  value = k.value;
+}
+
+abbrev pub applied_in_rules : List MatchedRule → List Applied
+applied_in_rules [] = []
+applied_in_rules (m ∷ matched) = map (applied_in_rule m) m.rule.declarations ++ applied_in_rules matched
+
+-- the declarations of the rules and then those of the `style` attribute, in order of appearance
+abbrev pub applied_of : List MatchedRule → List Kept → List Applied
+applied_of matched inline = applied_in_rules matched ++ map applied_in_attribute inline
