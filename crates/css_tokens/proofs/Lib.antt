@@ -15,3 +15,4 @@ pub mod PieceEnds
 pub mod PunctuationPieces
 pub mod FoundPieces
 pub mod LeftSteps
+pub mod WordFronts

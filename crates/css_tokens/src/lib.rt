@@ -20,9 +20,11 @@ mod runs;
 mod strings;
 mod tokenizer;
 mod urls;
+mod words;
 
 pub use component::{Component, Components};
 pub use css_model::{Bracket, Number, Token, TokenType, Tokens};
 pub use fault::TokenFault;
 pub use nesting::components;
 pub use tokenizer::tokenize;
+pub use words::{begins_with_word, is_word};
