@@ -6,8 +6,8 @@ use Rattle.std.specs.Map.{lookup}
 use Rattle.std.specs.Option.{option_or}
 use Rattle.std.specs.Str.{str_eq_ignore_ascii_case}
 use Rattle.css_model.specs.Classes.{Text}
-use Rattle.css_model.specs.Components.{Component, Components, no_components, component}
-use Rattle.rules_model.specs.ComponentLists.{ident_of, is_whitespace}
+use Rattle.css_model.specs.Components.{Component, Components}
+use Rattle.rules_model.specs.ComponentLists.{ident_of}
 use Rattle.value_model.specs.declared.prop.Prop.{Prop}
 use Rattle.value_model.specs.declared.prop.Prop.TheVariants.{Width, Height, MinWidth, MinHeight, MaxWidth, MaxHeight, MarginTop, MarginRight, MarginBottom, MarginLeft, PaddingTop, PaddingRight, PaddingBottom, PaddingLeft}
 use Rattle.value_model.specs.declared.wide_keyword.WideKeyword.{WideKeyword}
@@ -15,6 +15,7 @@ use Rattle.value_model.specs.declared.wide_keyword.WideKeyword.TheVariants.{Inhe
 use Rattle.value_model.specs.Forms.{Form, value_of_form}
 use Rattle.value_model.specs.Properties.{property, properties}
 use Rattle.value_model.specs.Values.{Value, wide_keyword}
+use Rattle.value_model.specs.Words.{words_of}
 
 -- ---- names
 
@@ -40,11 +41,6 @@ property_of_name name =
     option_or (find (is_name_of name) properties) (lookup (str_eq_ignore_ascii_case name) logical_names)
 
 -- ---- values
-
--- component values without the white space between them
-abbrev pub words_of : Components → List Component
-words_of no_components = []
-words_of (component c cs) = if is_whitespace c then words_of cs else c ∷ words_of cs
 
 abbrev pub wide_keywords : List (Text × WideKeyword)
 wide_keywords =

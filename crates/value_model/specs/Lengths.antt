@@ -1,6 +1,6 @@
 -- Lengths and percentages, and their values (CSS Values 4, sections 5 and 6; CSS Conditional 5,
 -- section 7).
-use Rattle.std.specs.Prelude.{ℕ, ℤ, pos, ◌*ℤ◌, int_div, int_lt, if◌then◌else◌, List, [], ◌∷◌, codes, Option, Some, None, option_map, Bool}
+use Rattle.std.specs.Prelude.{ℕ, ℤ, pos, ◌*ℤ◌, int_div, int_lt, if◌then◌else◌, List, [], ◌∷◌, codes, Option, Some, None, option_map, option_and_then, Bool, true, false}
 use Rattle.std.specs.Map.{lookup}
 use Rattle.std.specs.Int.{int_min, int_max}
 use Rattle.std.specs.Ordering.{int_eq}
@@ -11,9 +11,11 @@ use Rattle.units64.specs.declared.constants.TheConstants.{UNITS_PER_PIXEL, MILLI
 use Rattle.css_model.specs.declared.token.TokenType.{TokenType}
 use Rattle.css_model.specs.declared.token.TokenType.TheVariants.{Number, Percentage, Dimension}
 use Rattle.css_model.specs.Classes.{Text}
-use Rattle.css_model.specs.Components.{Component, preserved}
+use Rattle.css_model.specs.Components.{Component, preserved, Components}
 use Rattle.value_model.specs.declared.length_unit.Bases.{Bases}
 use Rattle.value_model.specs.declared.length_unit.LengthUnit.{LengthUnit}
+use Rattle.value_model.specs.declared.unit_set.UnitSet.{UnitSet}
+use Rattle.value_model.specs.Words.{only_of, words_of}
 use Rattle.value_model.specs.declared.length_unit.LengthBase.{LengthBase}
 use Rattle.value_model.specs.declared.length_unit.LengthBase.TheVariants.{Pixel, Em, Rem, Vw, Vh, Vmin, Vmax, Cqw, Cqh, Cqmin, Cqmax}
 
@@ -70,6 +72,11 @@ length_of other = None
 abbrev pub length_or_percentage_of : Component → Option Length
 length_or_percentage_of (preserved t) = length_or_percentage_of_type t.token_type
 length_or_percentage_of other = None
+
+-- the length that is all there is, or with percentages the length or percentage
+abbrev pub length_in : Bool → Components → Option Length
+length_in with_percentages cs = option_and_then
+    (λ c. if with_percentages then length_or_percentage_of c else length_of c) (only_of (words_of cs))
 
 -- below 0, as it is written
 abbrev pub is_negative : Length → Bool
@@ -128,3 +135,26 @@ percentage_value millionths base = clamped_millionths
 abbrev pub used_length : ComputedLength → ℤ → ℤ
 used_length (in_units n) base = clamped_millionths (millionths_of n)
 used_length (in_percent millionths) base = percentage_value millionths base
+
+-- ---- what a length refers to
+
+abbrev pub unit_set : (em rem vw vh cqw cqh : Bool) → UnitSet
+unit_set em rem vw vh cqw cqh = record { em = em; rem = rem; vw = vw; vh = vh; cqw = cqw; cqh = cqh }
+
+-- the bases on which the length of this unit depends
+abbrev pub bases_of_unit : LengthBase → UnitSet
+bases_of_unit Pixel = unit_set false false false false false false
+bases_of_unit Em = unit_set true false false false false false
+bases_of_unit Rem = unit_set false true false false false false
+bases_of_unit Vw = unit_set false false true false false false
+bases_of_unit Vh = unit_set false false false true false false
+bases_of_unit Vmin = unit_set false false true true false false
+bases_of_unit Vmax = unit_set false false true true false false
+bases_of_unit Cqw = unit_set false false false false true false
+bases_of_unit Cqh = unit_set false false false false false true
+bases_of_unit Cqmin = unit_set false false false false true true
+bases_of_unit Cqmax = unit_set false false false false true true
+
+abbrev pub mentioned : Length → UnitSet
+mentioned (dimension millionths u) = bases_of_unit u.base
+mentioned (percentage millionths) = unit_set false false false false false false

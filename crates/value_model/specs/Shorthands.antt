@@ -15,8 +15,9 @@ use Rattle.value_model.specs.declared.prop.Prop.{Prop}
 use Rattle.value_model.specs.declared.prop.Prop.TheVariants.{MarginTop, MarginRight, MarginBottom, MarginLeft, PaddingTop, PaddingRight, PaddingBottom, PaddingLeft, BorderTopWidth, BorderRightWidth, BorderBottomWidth, BorderLeftWidth, BorderTopStyle, BorderRightStyle, BorderBottomStyle, BorderLeftStyle, BorderTopColor, BorderRightColor, BorderBottomColor, BorderLeftColor, BackgroundColor, ContainerName, ContainerType}
 use Rattle.value_model.specs.Colors.{rgba}
 use Rattle.value_model.specs.Forms.{in_front, is_none_alone, unless}
-use Rattle.value_model.specs.Grammar.{own_value_of, wide_keyword_of, words_of}
+use Rattle.value_model.specs.Grammar.{own_value_of, wide_keyword_of}
 use Rattle.value_model.specs.Properties.{properties}
+use Rattle.value_model.specs.Words.{words_of}
 use Rattle.value_model.specs.Values.{Value, wide_keyword, keyword_value, color_value}
 
 -- a property and the value that a shorthand gives it

@@ -11,6 +11,7 @@ pub mod examples;
 mod keyword;
 mod length_unit;
 mod prop;
+mod unit_set;
 mod wide_keyword;
 
 pub use color::{Color, Rgba};
@@ -18,4 +19,5 @@ pub use containment::Containment;
 pub use keyword::Keyword;
 pub use length_unit::{Bases, LengthBase, LengthUnit};
 pub use prop::Prop;
+pub use unit_set::UnitSet;
 pub use wide_keyword::WideKeyword;

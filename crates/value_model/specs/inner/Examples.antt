@@ -6,10 +6,11 @@ use Rattle.rules_model.specs.Sheets.{components_of}
 use Rattle.value_model.specs.declared.color.Color.{Color}
 use Rattle.value_model.specs.declared.length_unit.Bases.{Bases}
 use Rattle.value_model.specs.declared.prop.Prop.{Prop}
+use Rattle.value_model.specs.declared.unit_set.UnitSet.{UnitSet}
 use Rattle.value_model.specs.Colors.{color_of}
 use Rattle.value_model.specs.Computing.{computed}
 use Rattle.value_model.specs.Grammar.{value_of}
-use Rattle.value_model.specs.Lengths.{ComputedLength, computed_length, in_units, length_of, length_or_percentage_of, length_value}
+use Rattle.value_model.specs.Lengths.{ComputedLength, computed_length, in_units, length_of, length_or_percentage_of, length_value, mentioned}
 use Rattle.value_model.specs.Properties.{property, properties}
 use Rattle.value_model.specs.Shorthands.{Longhand, expansion_of, shorthand_of_name}
 use Rattle.value_model.specs.Values.{Value, Final, length}
@@ -31,6 +32,10 @@ millionths text = option_map (length_value bases) (first length_of (components_o
 -- a length or percentage as it is computed
 abbrev pub in_length : Text → Option ComputedLength
 in_length text = option_map (computed_length bases) (first length_or_percentage_of (components_of text))
+
+-- what a length or percentage depends on
+abbrev pub bases_in : Text → Option UnitSet
+bases_in css = option_map mentioned (first length_or_percentage_of (components_of css))
 
 abbrev pub color_in : Text → Option Color
 color_in text = first color_of (components_of text)

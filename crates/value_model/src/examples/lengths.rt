@@ -1,8 +1,10 @@
 //! Lengths and their values (CSS Values 4, sections 5 and 6; CSS Conditional 5, section 7). The font
 //! sizes are 10 and 20 pixels, the viewport 1,000 by 500, the container 300 by 400.
-ghost use Rattle.value_model.specs.inner.Examples.{in_length, millionths};
-ghost use Rattle.value_model.specs.Lengths.{in_percent, in_units, used_length};
-ghost use Rattle.std.specs.Prelude.{◌≡◌, None, Some, codes, neg_ℤ, pos};
+ghost use Rattle.value_model.specs.inner.Examples.{bases_in, in_length, millionths};
+ghost use Rattle.rules_model.specs.Sheets.{components_of};
+ghost use Rattle.value_model.specs.declared.length_unit.LengthBase.TheVariants.{Pixel};
+ghost use Rattle.value_model.specs.Lengths.{dimension, in_percent, in_units, length_in, percentage, unit, unit_set, used_length};
+ghost use Rattle.std.specs.Prelude.{◌≡◌, None, Some, codes, false, neg_ℤ, pos, true};
 
 /// Absolute lengths: one exact quotient, truncated towards zero.
 #[tactic(auto, unfolding(css_model::specs::inner::Nesting::levels_of, css_model::specs::inner::Pieces::pieces_after, css_model::specs::inner::Fronts::parts_after))]
@@ -90,4 +92,34 @@ pub fn used()
     ensures negative { used_length (in_percent (neg_ℤ (pos 33333333))) (pos 1) ≡ neg_ℤ (pos 5208) }
     ensures of_a_negative_base { used_length (in_percent (pos 1000000)) (neg_ℤ (pos 64)) ≡ neg_ℤ (pos 10000) }
     ensures clamped { used_length (in_percent (pos 1000000000000000)) (pos 1073741824) ≡ pos 1000000000000000 }
+{}
+
+/// The bases on which lengths depend.
+#[tactic(auto, unfolding(css_model::specs::inner::Nesting::levels_of, css_model::specs::inner::Pieces::pieces_after, css_model::specs::inner::Fronts::parts_after))]
+pub fn mentioned()
+    ensures px { bases_in (codes "1px") ≡ Some (unit_set false false false false false false) }
+    ensures em { bases_in (codes "1em") ≡ Some (unit_set true false false false false false) }
+    ensures ex { bases_in (codes "1ex") ≡ Some (unit_set true false false false false false) }
+    ensures rem { bases_in (codes "1rem") ≡ Some (unit_set false true false false false false) }
+    ensures vw { bases_in (codes "1vw") ≡ Some (unit_set false false true false false false) }
+    ensures vh { bases_in (codes "1vh") ≡ Some (unit_set false false false true false false) }
+    ensures vmin { bases_in (codes "1vmin") ≡ Some (unit_set false false true true false false) }
+    ensures vmax { bases_in (codes "1vmax") ≡ Some (unit_set false false true true false false) }
+    ensures cqw { bases_in (codes "1cqw") ≡ Some (unit_set false false false false true false) }
+    ensures cqh { bases_in (codes "1cqh") ≡ Some (unit_set false false false false false true) }
+    ensures cqmin { bases_in (codes "1cqmin") ≡ Some (unit_set false false false false true true) }
+    ensures cqmax { bases_in (codes "1cqmax") ≡ Some (unit_set false false false false true true) }
+    ensures zero { bases_in (codes "0") ≡ Some (unit_set false false false false false false) }
+    ensures percent { bases_in (codes "1%") ≡ Some (unit_set false false false false false false) }
+{}
+
+/// A length by itself.
+#[tactic(auto, unfolding(css_model::specs::inner::Nesting::levels_of, css_model::specs::inner::Pieces::pieces_after, css_model::specs::inner::Fronts::parts_after))]
+pub fn alone()
+    ensures white_space { length_in false (components_of (codes " 1px ")) ≡ Some (dimension (pos 1000000) (unit Pixel 1 1)) }
+    ensures two { length_in false (components_of (codes "1px 1px")) ≡ None }
+    ensures percent { length_in false (components_of (codes "1%")) ≡ None }
+    ensures with_percent { length_in true (components_of (codes "1%")) ≡ Some (percentage (pos 1000000)) }
+    ensures zero { length_in true (components_of (codes "0")) ≡ Some (dimension (pos 0) (unit Pixel 1 1)) }
+    ensures nothing { length_in true (components_of (codes "")) ≡ None }
 {}
