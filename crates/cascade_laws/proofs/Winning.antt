@@ -1,5 +1,5 @@
 -- The winner.
-use Rattle.std.proofs.Common.{◌≡◌, ◌≢◌, ◌⊎◌, ◌∙◌, ap, sym, refl, subst, ℕ, zero, suc, ◌==◌, ◌<◌, nat_lt, if◌then◌else◌, List, [], ◌∷◌, Bool, true, false, inl, inr, arith}
+use Rattle.std.proofs.Common.{◌≡◌, ◌≢◌, ◌⊎◌, ◌∙◌, ap, sym, refl, subst, ℕ, zero, suc, ◌==◌, ◌<◌, nat_lt, if◌then◌else◌, List, [], ◌∷◌, true, false, inl, inr, arith}
 use Rattle.std.specs.Prelude.{Option, Some, None, is_some, unwrap_or}
 use Rattle.std.specs.List.{slice_get}
 use Rattle.std.proofs.lemmas.Bool.{cases_Bool, eqb-false, eqb-true, false≢true}
@@ -198,13 +198,17 @@ found-first None p d e ds h w behind g =
     (0, subst (λ x. IsWinner (e ∷ ds) p 0 x) (same-some e d g) (first-alone p e ds h w))
 found-first (Some f) p d e ds h w behind g = elim (cases_Bool (is_stronger e f)) [
   | inl s ↦
-      let picked : Some e ≡ Some d = sym (ap (λ b. if b then Some e else Some f) s) ∙ g in
-      (0, subst (λ x. IsWinner (e ∷ ds) p 0 x) (same-some e d picked)
-      (first-stronger p e f ds (behind f w).0 h (behind f w).1 s))
+      let picked : Some e ≡ Some d = sym (ap (λ b. if b then Some e else Some f) s) ∙ g in (
+        0,
+        subst (λ x. IsWinner (e ∷ ds) p 0 x) (same-some e d picked)
+            (first-stronger p e f ds (behind f w).0 h (behind f w).1 s),
+      )
   | inr s ↦
-      let picked : Some f ≡ Some d = sym (ap (λ b. if b then Some e else Some f) s) ∙ g in
-      (suc (behind f w).0, subst (λ x. IsWinner (e ∷ ds) p (suc (behind f w).0) x) (same-some f d picked)
-      (behind-first p e f ds (behind f w).0 (behind f w).1 s))
+      let picked : Some f ≡ Some d = sym (ap (λ b. if b then Some e else Some f) s) ∙ g in (
+        suc (behind f w).0,
+        subst (λ x. IsWinner (e ∷ ds) p (suc (behind f w).0) x) (same-some f d picked)
+            (behind-first p e f ds (behind f w).0 (behind f w).1 s),
+      )
 ]
 
 pub found : (ds : List Applied) (p : Prop) (d : Applied) → winner p ds ≡ Some d → (n : ℕ) × IsWinner ds p n d

@@ -1,5 +1,5 @@
 -- What holds of the declaration that wins.
-use Rattle.std.specs.Prelude.{ℕ, ◌≡◌, ◌≢◌, ◌⊎◌, List, Option, Some, None, Bool, true, false}
+use Rattle.std.specs.Prelude.{ℕ, ◌≡◌, ◌≢◌, ◌⊎◌, List, Some, None, true, false}
 use Rattle.std.specs.List.{slice_get}
 use Rattle.value_model.specs.declared.prop.Prop.{Prop}
 use Rattle.value_model.specs.Properties.{is_same_prop}

@@ -214,9 +214,12 @@ container_values_of words = in_front
 
 -- ---- `background` (CSS Backgrounds 3, section 2.10): a colour, or `none`
 
+abbrev pub transparent : Value
+transparent = color_value (AnRgba (rgba 0 0 0 0))
+
 abbrev pub background_values_of : List Component → Option (List Longhand)
 background_values_of words = in_front (option_map (λ v. (BackgroundColor, v))
-    (if is_none_alone words then Some (color_value (AnRgba (rgba 0 0 0 0)))
+    (if is_none_alone words then Some transparent
     else own_value_of BackgroundColor words)) (Some [])
 
 -- ---- all shorthands
