@@ -7,7 +7,7 @@ use Rattle.css_rules.proofs.ahead.Ahead.new.Goals as goal
 
 pub loop-last-init : goal.loop-last-init
 loop-last-init c =
-    ap (λ s. followed (components_view c.args.components) (stacked s)) c.new-stack.ensures
+    ap (λ s. followed (components_view c.args.components) (stacked s)) c.in_ok-stack.ensures
     ∙ followed-end (components_view c.args.components)
 
 pub loop-last-preserved : goal.loop-last-preserved
