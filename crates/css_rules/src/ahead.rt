@@ -110,7 +110,8 @@ impl Ahead {
     pub(crate) fn skip_colon(&mut self) -> bool
         ensures colon { declarations.after_colon (before lists.is_semicolon (left_of self.old))
             ≡ if result then Some (before lists.is_semicolon (left_of self.new)) else None }
-        ensures left { after lists.is_semicolon (left_of self.new) ≡ after lists.is_semicolon (left_of self.old) }
+        ensures left { after lists.is_semicolon (left_of self.new)
+            ≡ after lists.is_semicolon (left_of self.old) }
     {
         self.skip_whitespace();
         if self.is_at_colon() {
@@ -141,7 +142,8 @@ impl Ahead {
         ensures part { OnOk result (components_view part.new
             ≡ followed (components_view part.old) (before (ends end) (left_of self.old))) }
         ensures left { OnOk result (left_of self.new ≡ after (ends end) (left_of self.old)) }
-        ensures end { IfOk result (λ c. option_map component_view c ≡ end_of (ends end) (left_of self.old)) }
+        ensures end { IfOk result (λ c. option_map component_view c
+            ≡ end_of (ends end) (left_of self.old)) }
     {
         while let Some(c) = self.next() {
             if end.is(&c) {

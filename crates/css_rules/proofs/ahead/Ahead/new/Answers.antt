@@ -13,4 +13,5 @@ loop-last-init c =
 pub loop-last-preserved : goal.loop-last-preserved
 loop-last-preserved c =
     moved-one c.loop-last.components c.pop.new.self c.loop-last.stack c.push.new.self c.in-Some.last
-    (components_view c.args.components) c.in-Some.ensures c.in_ok-push.ensures.ok c.loop-last.invariant
+    (components_view c.args.components) c.in-Some.ensures c.in_ok-push.ensures.ok
+    c.loop-last.invariant
