@@ -17,19 +17,23 @@ use Rattle.css_rules.proofs.Parts.{front-before, white-semicolon}
 
 -- ---- values
 
-white-exclamation_type : (k : TokenType) → is_whitespace_type k ≡ true → is_exclamation_type k ≡ false
+white-exclamation_type : (k : TokenType) → is_whitespace_type k ≡ true
+    → is_exclamation_type k ≡ false
 white-exclamation_type Whitespace e = refl
 white-exclamation_type other e = cc
 
-white-exclamation : (c : Component) → is_whitespace c ≡ true → is_token is_exclamation_type c ≡ false
+white-exclamation : (c : Component) → is_whitespace c ≡ true
+    → is_token is_exclamation_type c ≡ false
 white-exclamation (preserved t) e = white-exclamation_type t.token_type e
 white-exclamation (simple_block head contents close) e = refl
 white-exclamation (function_block head contents close) e = refl
 
-white-mark : (c : Component) (cs : Components) → is_whitespace c ≡ true → is_important_mark (component c cs) ≡ false
+white-mark : (c : Component) (cs : Components) → is_whitespace c ≡ true
+    → is_important_mark (component c cs) ≡ false
 white-mark c cs w = rw (white-exclamation c w) refl
 
-pub has-front : (cs : Components) → has_important_mark (without_front_whitespace cs) ≡ has_important_mark cs
+pub has-front : (cs : Components)
+    → has_important_mark (without_front_whitespace cs) ≡ has_important_mark cs
 has-front no_components = refl
 has-front (component c cs) = elim (cases_Bool (is_whitespace c)) [
   | inl w ↦ rw (w, white-mark c cs w) (has-front cs)
@@ -45,7 +49,8 @@ before-begins (component c cs) b = elim (cases_Bool (is_important_mark (componen
 ]
 
 before-front : (cs : Components)
-    → before_important_mark (without_front_whitespace cs) ≡ without_front_whitespace (before_important_mark cs)
+    → before_important_mark (without_front_whitespace cs)
+    ≡ without_front_whitespace (before_important_mark cs)
 before-front no_components = refl
 before-front (component c cs) = elim (cases_Bool (is_whitespace c)) [
   | inl w ↦ rw (w, white-mark c cs w, w) (before-front cs)
@@ -53,11 +58,13 @@ before-front (component c cs) = elim (cases_Bool (is_whitespace c)) [
 ]
 
 pub value-front : (cs : Components)
-    → without_end_whitespace (before_important_mark (without_front_whitespace cs)) ≡ trimmed (before_important_mark cs)
+    → without_end_whitespace (before_important_mark (without_front_whitespace cs))
+    ≡ trimmed (before_important_mark cs)
 value-front cs = ap without_end_whitespace (before-front cs)
 
 -- a value that was read
-pub value-is : (old front : Components) (part value trim : List component_code.Component) (important : Bool)
+pub value-is : (old front : Components) (part value trim : List component_code.Component)
+    (important : Bool)
     → front ≡ without_front_whitespace old → components_view part ≡ before is_semicolon front
     → important ≡ has_important_mark (components_view part)
     → components_view value ≡ before_important_mark (components_view part)
@@ -67,20 +74,23 @@ pub value-is : (old front : Components) (part value trim : List component_code.C
 value-is old front part value trim important f p i v t =
     let all : components_view part ≡ without_front_whitespace (before is_semicolon old) =
     p ∙ (ap (before is_semicolon) f ∙ front-before is_semicolon white-semicolon old) in (
-      t ∙ (ap without_end_whitespace (v ∙ ap before_important_mark all) ∙ value-front (before is_semicolon old)),
+      t ∙ (ap without_end_whitespace (v ∙ ap before_important_mark all)
+          ∙ value-front (before is_semicolon old)),
       i ∙ (ap has_important_mark all ∙ has-front (before is_semicolon old)),
     )
 
 -- ---- lists of declarations
 
-pub after-at_rule : (cs : Components) → declarations_after_at_rule cs ≡ declarations_of (after ends_at_rule cs)
+pub after-at_rule : (cs : Components)
+    → declarations_after_at_rule cs ≡ declarations_of (after ends_at_rule cs)
 after-at_rule no_components = refl
 after-at_rule (component c cs) = elim (cases_Bool (ends_at_rule c)) [
   | inl e ↦ rw e refl
   | inr e ↦ rw e (after-at_rule cs)
 ]
 
-after-semicolon : (cs : Components) → declarations_after_semicolon cs ≡ declarations_of (after is_semicolon cs)
+after-semicolon : (cs : Components)
+    → declarations_after_semicolon cs ≡ declarations_of (after is_semicolon cs)
 after-semicolon no_components = refl
 after-semicolon (component c cs) = elim (cases_Bool (is_semicolon c)) [
   | inl e ↦ rw e refl
@@ -94,7 +104,8 @@ count-after test (component c cs) = elim (cases_Bool (test c)) [
   | inr e ↦ rw e (omega (arith, count-after test cs))
 ]
 
-pub neither-between : (c : Component) → is_whitespace c ≡ false → is_semicolon c ≡ false → is_between_declarations c ≡ false
+pub neither-between : (c : Component) → is_whitespace c ≡ false → is_semicolon c ≡ false
+    → is_between_declarations c ≡ false
 neither-between c w e = rw (w, e) refl
 
 pub declarations-between : (c : Component) (cs : Components) → is_between_declarations c ≡ true
@@ -109,20 +120,26 @@ declarations-at_rule c cs b k = rw (b, k) (after-at_rule cs)
 pub declarations-piece : (c : Component) (cs : Components) → is_between_declarations c ≡ false
     → is_some (at_keyword_of c) ≡ false → is_semicolon c ≡ false
     → declarations_of (component c cs)
-    ≡ with_declaration (declaration_of (component c (before is_semicolon cs))) (declarations_of (after is_semicolon cs))
+    ≡ with_declaration (declaration_of (component c (before is_semicolon cs)))
+    (declarations_of (after is_semicolon cs))
 declarations-piece c cs b k e =
-    rw (b, k, e) (ap (with_declaration (declaration_of (component c (before is_semicolon cs)))) (after-semicolon cs))
+    rw (b, k, e) (ap (with_declaration (declaration_of (component c (before is_semicolon cs))))
+    (after-semicolon cs))
 
 -- ---- what was taken
 
-pub taken-some : (ds more : List code.Declaration) (d : code.Declaration) (c : Component) (all rest : Components)
+pub taken-some : (ds more : List code.Declaration) (d : code.Declaration) (c : Component)
+    (all rest : Components)
     → is_between_declarations c ≡ false → is_some (at_keyword_of c) ≡ false → is_semicolon c ≡ false
-    → Some (declaration_view d) ≡ declaration_of (component c (before is_semicolon all)) → rest ≡ after is_semicolon all
+    → Some (declaration_view d) ≡ declaration_of (component c (before is_semicolon all))
+    → rest ≡ after is_semicolon all
     → more ≡ ds ++ d ∷ []
-    → declarations_view more ++ declarations_of rest ≡ declarations_view ds ++ declarations_of (component c all)
+    → declarations_view more ++ declarations_of rest
+    ≡ declarations_view ds ++ declarations_of (component c all)
 taken-some ds more d c all rest b k e is r m =
     let piece : declarations_of (component c all) ≡ declaration_view d ∷ declarations_of rest =
-    declarations-piece c all b k e ∙ (ap (λ o. with_declaration o (declarations_of (after is_semicolon all))) (sym is)
+    declarations-piece c all b k e
+    ∙ (ap (λ o. with_declaration o (declarations_of (after is_semicolon all))) (sym is)
     ∙ ap (λ cs. declaration_view d ∷ declarations_of cs) (sym r)) in
     ap (λ l. declarations_view l ++ declarations_of rest) m
     ∙ (ap (λ l. l ++ declarations_of rest) (map-append declaration_view ds (d ∷ []))
@@ -132,9 +149,11 @@ taken-some ds more d c all rest b k e is r m =
 pub taken-none : (ds : List code.Declaration) (c : Component) (all rest : Components)
     → is_between_declarations c ≡ false → is_some (at_keyword_of c) ≡ false → is_semicolon c ≡ false
     → None ≡ declaration_of (component c (before is_semicolon all)) → rest ≡ after is_semicolon all
-    → declarations_view ds ++ declarations_of rest ≡ declarations_view ds ++ declarations_of (component c all)
+    → declarations_view ds ++ declarations_of rest
+    ≡ declarations_view ds ++ declarations_of (component c all)
 taken-none ds c all rest b k e is r =
     let piece : declarations_of (component c all) ≡ declarations_of rest =
-    declarations-piece c all b k e ∙ (ap (λ o. with_declaration o (declarations_of (after is_semicolon all))) (sym is)
+    declarations-piece c all b k e
+    ∙ (ap (λ o. with_declaration o (declarations_of (after is_semicolon all))) (sym is)
     ∙ ap declarations_of (sym r)) in
     ap (λ l. declarations_view ds ++ l) (sym piece)

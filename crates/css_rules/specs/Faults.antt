@@ -6,7 +6,8 @@ use Rattle.rules_model.specs.declared.sheet_limit.SheetLimit.TheVariants as limi
 use Rattle.css_rules.specs.declared.fault.SheetFault.{SheetFault}
 use Rattle.css_rules.specs.declared.fault.SheetFault.TheVariants as sheet
 
--- a sheet is above no limit, and a fault tells the first one that it is above, unless memory ran out
+-- a sheet is above no limit, and a fault tells the first one that it is above, unless memory ran
+-- out
 abbrev pub IsLimited : {X : Type 0} → Result X SheetFault → Text → Type 0
 IsLimited (Ok x) text = limit_of_sheet text ≡ None
 IsLimited (Err sheet.TooLarge) text = limit_of_sheet text ≡ Some limit.TooLarge

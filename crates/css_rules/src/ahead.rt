@@ -5,7 +5,7 @@ ghost use Rattle.css_tokens.specs.Nested.{component_view, components_view};
 ghost use Rattle.rules_model.specs.ComponentLists as lists;
 ghost use Rattle.rules_model.specs.ComponentLists.{before, without_front_whitespace};
 ghost use Rattle.rules_model.specs.Declarations as declarations;
-ghost use Rattle.std.specs.Prelude.{◌≡◌, IfOk, OnOk, Some, None, option_map, if◌then◌else◌};
+ghost use Rattle.std.specs.Prelude.{◌≡◌, [], IfOk, OnOk, Some, None, option_map, if◌then◌else◌};
 
 use crate::classes::{is_colon, is_curly_block, is_semicolon, is_whitespace};
 use css_tokens::{Component, Components};
@@ -36,6 +36,13 @@ impl End {
     }
 }
 
+/// Returns an empty list with room for `count` component values.
+fn with_room(alloc: Global, count: usize) -> Result<Components, NoMemory>
+    ensures { IfOk result (λ cs. cs ≡ []) }
+{
+    Ok(Seq::from_vec(Vec::with_capacity(alloc, count)?))
+}
+
 /// Component values that are not read yet.
 #[derive(Drop)]
 pub(crate) struct Ahead {
@@ -49,7 +56,7 @@ impl Ahead {
         ensures { IfOk result (λ ahead. left_of ahead ≡ components_view components) }
     {
         let mut components = components;
-        let mut stack = Seq::new(alloc);
+        let mut stack = with_room(alloc, components.len())?;
         while let Some(last) = components.pop() {
             stack.push(last)?;
         }
@@ -103,7 +110,8 @@ impl Ahead {
     pub(crate) fn skip_colon(&mut self) -> bool
         ensures colon { declarations.after_colon (before lists.is_semicolon (left_of self.old))
             ≡ if result then Some (before lists.is_semicolon (left_of self.new)) else None }
-        ensures left { after lists.is_semicolon (left_of self.new) ≡ after lists.is_semicolon (left_of self.old) }
+        ensures left { after lists.is_semicolon (left_of self.new)
+            ≡ after lists.is_semicolon (left_of self.old) }
     {
         self.skip_whitespace();
         if self.is_at_colon() {
@@ -134,7 +142,8 @@ impl Ahead {
         ensures part { OnOk result (components_view part.new
             ≡ followed (components_view part.old) (before (ends end) (left_of self.old))) }
         ensures left { OnOk result (left_of self.new ≡ after (ends end) (left_of self.old)) }
-        ensures end { IfOk result (λ c. option_map component_view c ≡ end_of (ends end) (left_of self.old)) }
+        ensures end { IfOk result (λ c. option_map component_view c
+            ≡ end_of (ends end) (left_of self.old)) }
     {
         while let Some(c) = self.next() {
             if end.is(&c) {

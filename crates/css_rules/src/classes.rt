@@ -126,7 +126,8 @@ fn is_important_name(name: &Text) -> bool
 
 /// The at-rule whose block is kept, if this is its keyword.
 pub(crate) fn conditional_rule(c: &Component) -> Option<ConditionalRule>
-    ensures { result ≡ option_and_then rules.conditional_rule_of (lists.at_keyword_of (component_view c.now)) }
+    ensures { result ≡ option_and_then rules.conditional_rule_of
+        (lists.at_keyword_of (component_view c.now)) }
 {
     match c {
         Component::One(token) => conditional_rule_of_type(&token.token_type),
@@ -135,7 +136,8 @@ pub(crate) fn conditional_rule(c: &Component) -> Option<ConditionalRule>
 }
 
 fn conditional_rule_of_type(token_type: &TokenType) -> Option<ConditionalRule>
-    ensures { result ≡ option_and_then rules.conditional_rule_of (lists.at_keyword_of_type token_type.now) }
+    ensures { result ≡ option_and_then rules.conditional_rule_of
+        (lists.at_keyword_of_type token_type.now) }
 {
     match token_type {
         TokenType::AtKeyword(name) => conditional_rule_of_name(name),

@@ -1,4 +1,5 @@
-//! Lists of declarations, in style blocks and `style` attributes (CSS Syntax 3, sections 5.3.8 and 5.4.4 to 5.4.6).
+//! Lists of declarations, in style blocks and `style` attributes (CSS Syntax 3, sections 5.3.8 and
+//! 5.4.4 to 5.4.6).
 ghost use Rattle.css_rules.specs.Views.{declaration_view, declarations_view};
 ghost use Rattle.css_rules.specs.inner.Reading.{left_of, after, count};
 ghost use Rattle.css_model.specs.Components as components;
@@ -35,7 +36,8 @@ pub fn parse_style_attr(alloc: Global, text: &str) -> Result<Declarations, NoMem
 
 /// The declarations of a list of them and of at-rules, in their order.
 pub(crate) fn declarations_in(alloc: Global, contents: Components) -> Result<Declarations, NoMemory>
-    ensures { IfOk result (λ ds. declarations_view ds ≡ defined.declarations_of (components_view contents)) }
+    ensures { IfOk result (λ ds. declarations_view ds
+        ≡ defined.declarations_of (components_view contents)) }
 {
     let mut ahead = Ahead::new(alloc, contents)?;
     let mut declarations = Seq::new(alloc);
@@ -53,9 +55,11 @@ fn take_item(
     declarations: &mut Declarations,
 ) -> Result<(), NoMemory>
     ensures less { OnOk result (count (left_of ahead.new) ≤ count (left_of ahead.old)) }
-    ensures taken { OnOk result (declarations_view declarations.new ++ defined.declarations_of (left_of ahead.new)
+    ensures taken { OnOk result (declarations_view declarations.new
+        ++ defined.declarations_of (left_of ahead.new)
         ≡ declarations_view declarations.old
-        ++ defined.declarations_of (components.component (component_view first) (left_of ahead.old))) }
+        ++ defined.declarations_of (components.component (component_view first)
+        (left_of ahead.old))) }
 {
     if is_whitespace(&first) || is_semicolon(&first) {
         return Ok(());

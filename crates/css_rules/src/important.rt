@@ -12,7 +12,8 @@ use css_tokens::{Component, Components};
 /// Drops `!important` and what is after it, and returns whether the value had it.
 pub(crate) fn take_important(value: &mut Components) -> bool
     ensures important { result ≡ declarations.has_important_mark (components_view value.old) }
-    ensures value { components_view value.new ≡ declarations.before_important_mark (components_view value.old) }
+    ensures value { components_view value.new
+        ≡ declarations.before_important_mark (components_view value.old) }
 {
     match mark_place(value.as_slice()) {
         Some(place) => {
@@ -25,8 +26,8 @@ pub(crate) fn take_important(value: &mut Components) -> bool
 
 /// How many component values are before `!important`.
 ///
-/// White space is read once for each `!` and each `important` just before it, so the time grows with
-/// the length of the value.
+/// White space is read once for each `!` and each `important` just before it, so the time grows
+/// with the length of the value.
 fn mark_place(value: &[Component]) -> Option<usize>
     ensures { IsMarkPlace result value.now }
 {

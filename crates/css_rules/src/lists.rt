@@ -25,7 +25,8 @@ fn drop_last(components: &mut Components)
 
 /// Drops white space at the end.
 pub(crate) fn trim_end(components: &mut Components)
-    ensures { components_view components.new ≡ lists.without_end_whitespace (components_view components.old) }
+    ensures { components_view components.new
+        ≡ lists.without_end_whitespace (components_view components.old) }
 {
     while ends_with_whitespace(components.as_slice()) {
         drop_last(components);

@@ -93,7 +93,8 @@ fn find_in_at_rule(
 ) -> Result<(), NoMemory>
     requires { IsInside found.old around }
     ensures found { OnOk result (Adds found.old found.new (block_rules
-        (rules.conditions_inside (around_of found.old around) (rules.condition_of (component_view keyword) (left_of ahead.old)))
+        (rules.conditions_inside (around_of found.old around)
+        (rules.condition_of (component_view keyword) (left_of ahead.old)))
         (end_of ends_at_rule (left_of ahead.old)))) }
     ensures left { OnOk result (left_of ahead.new ≡ after ends_at_rule (left_of ahead.old)) }
 {
@@ -146,7 +147,8 @@ fn find_in_block(
 ) -> Result<(), NoMemory>
     requires { IsInside found.old condition.around }
     ensures { OnOk result (Adds found.old found.new (rules.rules_in
-        (around_of found.old condition.around ++ condition_view condition ∷ []) (components_view contents))) }
+        (around_of found.old condition.around ++ condition_view condition ∷ [])
+        (components_view contents))) }
 {
     if contents.is_empty() {
         return Ok(());
@@ -166,10 +168,13 @@ fn find_qualified_rule(
 ) -> Result<(), NoMemory>
     requires inside { IsInside found.old around }
     requires first { lists.is_whitespace (component_view first) ≡ false }
-    ensures found { OnOk result (Adds found.old found.new (qualified_rules (around_of found.old around)
-        (components.component (component_view first) (lists.before lists.is_curly_block (left_of ahead.old)))
+    ensures found { OnOk result (Adds found.old found.new
+        (qualified_rules (around_of found.old around)
+        (components.component (component_view first)
+        (lists.before lists.is_curly_block (left_of ahead.old)))
         (end_of lists.is_curly_block (left_of ahead.old)))) }
-    ensures left { OnOk result (left_of ahead.new ≡ after lists.is_curly_block (left_of ahead.old)) }
+    ensures left { OnOk result (left_of ahead.new
+        ≡ after lists.is_curly_block (left_of ahead.old)) }
 {
     let mut prelude = Seq::new(alloc);
     prelude.push(first)?;
@@ -191,7 +196,8 @@ fn keep_rule(
 ) -> Result<(), NoMemory>
     requires { IsInside found.old around }
     ensures { OnOk result (Adds found.old found.new
-        (rule_of (around_of found.old around) (components_view prelude) (component_view block) ∷ [])) }
+        (rule_of (around_of found.old around) (components_view prelude)
+        (component_view block) ∷ [])) }
 {
     let declarations = declarations_in(alloc, into_contents(alloc, block))?;
     found.rules.push(StyleRule {
@@ -203,7 +209,8 @@ fn keep_rule(
 
 /// The style rules of a sheet's component values.
 pub(crate) fn rules_of(alloc: Global, components: Components) -> Result<Found, NoMemory>
-    ensures { IfOk result (λ found. rules_found found ≡ rules.rules_of (components_view components)) }
+    ensures { IfOk result (λ found. rules_found found
+        ≡ rules.rules_of (components_view components)) }
 {
     let mut found = Found {
         conditions: Seq::new(alloc),

@@ -18,8 +18,8 @@ use std::alloc::Global;
 ///
 /// Returns `TooLarge`, `TooDeep` or `TooManyRules`, the first of these that holds, if the sheet is
 /// above that limit, unless memory runs out before.
-/// Time and memory grow with the length of the text: preludes and values are moved into the rules, and
-/// a condition is kept once for all rules in its block.
+/// Time and memory grow with the length of the text: preludes and values are moved into the rules,
+/// and a condition is kept once for all rules in its block.
 pub fn parse_sheet(alloc: Global, text: &str) -> Result<Sheet, SheetFault>
     ensures text { IfOk result (λ sheet. sheet.text ≡ chars text.now) }
     ensures rules { IfOk result (λ sheet. sheet_view sheet ≡ style_rules_of (chars text.now)) }

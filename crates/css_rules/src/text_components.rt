@@ -11,9 +11,11 @@ use std::alloc::Global;
 
 /// The component values of `text`.
 pub(crate) fn components_of(alloc: Global, text: &str) -> Result<Components, TokenFault>
-    ensures components { IfOk result (λ cs. components_view cs ≡ sheets.components_of (chars text.now)) }
+    ensures components { IfOk result
+        (λ cs. components_view cs ≡ sheets.components_of (chars text.now)) }
     ensures low { IfOk result (λ cs. depths (components_view cs) ≤ MAX_NESTING) }
-    ensures deep { result ≡ Err TokenFault.TooDeep → MAX_NESTING < depths (sheets.components_of (chars text.now)) }
+    ensures deep { result ≡ Err TokenFault.TooDeep
+        → MAX_NESTING < depths (sheets.components_of (chars text.now)) }
 {
     let tokens = tokenize(alloc, text)?;
     components(alloc, &tokens)

@@ -199,26 +199,33 @@ fn repeated(alloc: Global, front: &str, text: &str, count: usize) -> Result<Stri
     Ok(all)
 }
 
-/// The fault of a sheet.
-fn fault(alloc: Global, text: &str) -> Option<SheetFault> {
-    parse_sheet(alloc, text).err()
+/// The limit that a sheet is above, if there is one.
+fn limit(alloc: Global, text: &str) -> Result<Option<SheetFault>, NoMemory> {
+    match parse_sheet(alloc, text) {
+        Ok(_) => Ok(None),
+        Err(SheetFault::NoMemory) => Err(NoMemory),
+        Err(fault) => Ok(Some(fault)),
+    }
 }
 
 #[test]
 fn sheets_have_limits(rt: HostRuntime) -> Result<(), Fail> {
     let alloc = rt.alloc();
     let many = repeated(alloc, "", "a{}", 2_000)?;
-    assert_eq!(rt; fault(alloc, many.as_str()), None);
+    assert_eq!(rt; limit(alloc, many.as_str())?, None);
     let more = repeated(alloc, "@media x{a{}}", "a{}", 2_000)?;
-    assert_eq!(rt; fault(alloc, more.as_str()), Some(SheetFault::TooManyRules));
+    assert_eq!(rt;
+        limit(alloc, more.as_str())?,
+        Some(SheetFault::TooManyRules)
+    );
     let deep = repeated(alloc, "a{}", "[", 64)?;
-    assert_eq!(rt; fault(alloc, deep.as_str()), None);
+    assert_eq!(rt; limit(alloc, deep.as_str())?, None);
     let deeper = repeated(alloc, more.as_str(), "[", 65)?;
-    assert_eq!(rt; fault(alloc, deeper.as_str()), Some(SheetFault::TooDeep));
+    assert_eq!(rt; limit(alloc, deeper.as_str())?, Some(SheetFault::TooDeep));
     let large = repeated(alloc, "a{}", " ", 1_048_573)?;
-    assert_eq!(rt; fault(alloc, large.as_str()), None);
+    assert_eq!(rt; limit(alloc, large.as_str())?, None);
     let larger = repeated(alloc, deeper.as_str(), "[", 1_048_576)?;
-    assert_eq!(rt; fault(alloc, larger.as_str()), Some(SheetFault::TooLarge));
+    assert_eq!(rt; limit(alloc, larger.as_str())?, Some(SheetFault::TooLarge));
     Ok(())
 }
 

@@ -30,6 +30,14 @@ fn words(alloc: Global, others: usize) -> Result<Vec<String>, NoMemory> {
     Ok(words)
 }
 
+/// Returns the status of a run that did not end for want of memory.
+fn ending(status: Status) -> Result<Status, NoMemory> {
+    match status {
+        Status::NoMemory => Err(NoMemory),
+        other => Ok(other),
+    }
+}
+
 /// A script over a source and a sink in memory: how it ends, and what it writes.
 #[derive(Drop)]
 struct Case<'a> {
@@ -48,7 +56,7 @@ fn expect(rt: &impl Abort, alloc: Global, case: &Case) -> Result<(), NoMemory> {
     let mut source = MemSource::new(alloc, case.script, piece, case.fail_at)?;
     let mut sink = MemSink::new(alloc, case.room)?;
     let mut steps = Steps::new(());
-    let status = run(alloc, words.as_slice(), &mut source, &mut sink, &mut steps);
+    let status = ending(run(alloc, words.as_slice(), &mut source, &mut sink, &mut steps))?;
     assert_eq!(rt; status, case.status);
     assert_eq!(rt; sink.bytes(), case.replies);
     Ok(())

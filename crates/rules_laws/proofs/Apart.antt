@@ -6,24 +6,29 @@ use Rattle.css_model.specs.declared.token.TokenType.TheVariants.{AtKeyword}
 use Rattle.css_model.specs.Components.{Component, preserved, simple_block, function_block}
 use Rattle.rules_model.specs.ComponentLists.{is_whitespace, is_whitespace_type, is_cdo_or_cdc_type, is_semicolon, is_semicolon_type, is_token, at_keyword_of, at_keyword_of_type, is_curly_block}
 
-pub keyword-whitespace_type : (k : TokenType) → is_some (at_keyword_of_type k) ≡ true → is_whitespace_type k ≡ false
+pub keyword-whitespace_type : (k : TokenType) → is_some (at_keyword_of_type k) ≡ true
+    → is_whitespace_type k ≡ false
 keyword-whitespace_type (AtKeyword name) e = refl
 keyword-whitespace_type other e = cc
 
-pub keyword-cdo_type : (k : TokenType) → is_some (at_keyword_of_type k) ≡ true → is_cdo_or_cdc_type k ≡ false
+pub keyword-cdo_type : (k : TokenType) → is_some (at_keyword_of_type k) ≡ true
+    → is_cdo_or_cdc_type k ≡ false
 keyword-cdo_type (AtKeyword name) e = refl
 keyword-cdo_type other e = cc
 
-pub keyword-semicolon_type : (k : TokenType) → is_some (at_keyword_of_type k) ≡ true → is_semicolon_type k ≡ false
+pub keyword-semicolon_type : (k : TokenType) → is_some (at_keyword_of_type k) ≡ true
+    → is_semicolon_type k ≡ false
 keyword-semicolon_type (AtKeyword name) e = refl
 keyword-semicolon_type other e = cc
 
-pub keyword-whitespace : (c : Component) → is_some (at_keyword_of c) ≡ true → is_whitespace c ≡ false
+pub keyword-whitespace : (c : Component) → is_some (at_keyword_of c) ≡ true
+    → is_whitespace c ≡ false
 keyword-whitespace (preserved t) e = keyword-whitespace_type t.token_type e
 keyword-whitespace (simple_block head contents close) e = refl
 keyword-whitespace (function_block head contents close) e = refl
 
-pub keyword-cdo : (c : Component) → is_some (at_keyword_of c) ≡ true → is_token is_cdo_or_cdc_type c ≡ false
+pub keyword-cdo : (c : Component) → is_some (at_keyword_of c) ≡ true
+    → is_token is_cdo_or_cdc_type c ≡ false
 keyword-cdo (preserved t) e = keyword-cdo_type t.token_type e
 keyword-cdo (simple_block head contents close) e = refl
 keyword-cdo (function_block head contents close) e = refl

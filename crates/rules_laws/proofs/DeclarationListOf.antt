@@ -18,7 +18,8 @@ with-item i cs more is j l = record {
   items = i ∷ l.items;
   rest = l.rest;
   joined = j ∙ (ap (followed (item_components i)) l.joined
-      ∙ sym (followed-followed (item_components i) (items_components l.items) (rest_components l.rest)));
+      ∙ sym (followed-followed (item_components i) (items_components l.items)
+      (rest_components l.rest)));
   are_items = (is, l.are_items);
   is_rest = l.is_rest;
 }
@@ -35,7 +36,8 @@ list-at_rule c cs k (inl n) = record {
 list-at_rule c cs k (inr s) =
     with-item (at_rule c s.part s.end) (component c cs) s.more
     (record { is_keyword = k; no_end = s.none_pass }, s.passes)
-    (ap (component c) (s.joined ∙ sym (followed-followed s.part (component s.end no_components) s.more)))
+    (ap (component c) (s.joined ∙ sym
+    (followed-followed s.part (component s.end no_components) s.more)))
     s.holds
 
 list-piece : (c : Component) (cs : Components) → is_between_declarations c ≡ false
@@ -51,7 +53,8 @@ list-piece c cs b k e (inl n) = record {
 list-piece c cs b k e (inr s) =
     with-item (ended (component c s.part) s.end) (component c cs) s.more
     ((b, k, (e, s.none_pass)), s.passes)
-    (ap (component c) (s.joined ∙ sym (followed-followed s.part (component s.end no_components) s.more)))
+    (ap (component c) (s.joined ∙ sym
+    (followed-followed s.part (component s.end no_components) s.more)))
     s.holds
 
 mutual
@@ -67,7 +70,8 @@ mutual
     | inl b ↦ with-item (between_declarations c) (component c cs) cs b refl (list-of cs)
     | inr b ↦ elim (cases_Bool (is_some (at_keyword_of c))) [
       | inl k ↦ list-at_rule c cs k (split-of ends_at_rule cs)
-      | inr k ↦ list-piece c cs b k (or-right (is_whitespace c) (is_semicolon c) b) (split-of is_semicolon cs)
+      | inr k ↦ list-piece c cs b k (or-right (is_whitespace c) (is_semicolon c) b)
+          (split-of is_semicolon cs)
     ]
   ]
 

@@ -15,15 +15,18 @@ use Rattle.rules_laws.proofs.Trimmed.{trimmed-padded, padded-trimmed}
 
 -- ---- kinds
 
-exclamation-whitespace_type : (k : TokenType) → is_exclamation_type k ≡ true → is_whitespace_type k ≡ false
+exclamation-whitespace_type : (k : TokenType) → is_exclamation_type k ≡ true
+    → is_whitespace_type k ≡ false
 exclamation-whitespace_type (Delim c) e = refl
 exclamation-whitespace_type other e = cc
 
-exclamation-important_type : (k : TokenType) → is_exclamation_type k ≡ true → is_important_type k ≡ false
+exclamation-important_type : (k : TokenType) → is_exclamation_type k ≡ true
+    → is_important_type k ≡ false
 exclamation-important_type (Delim c) e = refl
 exclamation-important_type other e = cc
 
-important-whitespace_type : (k : TokenType) → is_important_type k ≡ true → is_whitespace_type k ≡ false
+important-whitespace_type : (k : TokenType) → is_important_type k ≡ true
+    → is_whitespace_type k ≡ false
 important-whitespace_type (Ident name) e = refl
 important-whitespace_type other e = cc
 
@@ -31,17 +34,20 @@ colon-whitespace_type : (k : TokenType) → is_colon_type k ≡ true → is_whit
 colon-whitespace_type Colon e = refl
 colon-whitespace_type other e = cc
 
-exclamation-whitespace : (c : Component) → is_token is_exclamation_type c ≡ true → is_whitespace c ≡ false
+exclamation-whitespace : (c : Component) → is_token is_exclamation_type c ≡ true
+    → is_whitespace c ≡ false
 exclamation-whitespace (preserved t) e = exclamation-whitespace_type t.token_type e
 exclamation-whitespace (simple_block head contents close) e = refl
 exclamation-whitespace (function_block head contents close) e = refl
 
-exclamation-important : (c : Component) → is_token is_exclamation_type c ≡ true → is_token is_important_type c ≡ false
+exclamation-important : (c : Component) → is_token is_exclamation_type c ≡ true
+    → is_token is_important_type c ≡ false
 exclamation-important (preserved t) e = exclamation-important_type t.token_type e
 exclamation-important (simple_block head contents close) e = refl
 exclamation-important (function_block head contents close) e = refl
 
-important-whitespace : (c : Component) → is_token is_important_type c ≡ true → is_whitespace c ≡ false
+important-whitespace : (c : Component) → is_token is_important_type c ≡ true
+    → is_whitespace c ≡ false
 important-whitespace (preserved t) e = important-whitespace_type t.token_type e
 important-whitespace (simple_block head contents close) e = refl
 important-whitespace (function_block head contents close) e = refl
@@ -53,7 +59,8 @@ colon-whitespace (function_block head contents close) e = refl
 
 -- ---- a mark
 
-word-form : (between : Components) (word : Component) (after : Components) → are_whitespace between ≡ true
+word-form : (between : Components) (word : Component) (after : Components)
+    → are_whitespace between ≡ true
     → is_token is_important_type word ≡ true → are_whitespace after ≡ true
     → is_important_word (followed between (component word after)) ≡ true
 word-form no_components word after b w a = rw (important-whitespace word w, w) a
@@ -63,7 +70,8 @@ word-form (component c between) word after b w a =
 
 mark-form : (mark : Components) → IsMark mark → is_important_mark mark ≡ true
 mark-form mark m = subst (λ cs. is_important_mark cs ≡ true) (sym m.joined)
-    (rw m.is_exclamation (word-form m.between m.word m.after m.between_whitespace m.is_word m.after_whitespace))
+    (rw m.is_exclamation (word-form m.between m.word m.after m.between_whitespace m.is_word
+    m.after_whitespace))
 
 -- what `important` with white space around it consists of
 pub record IsWord (cs : Components) : Type 0 where
@@ -87,21 +95,23 @@ word-of (component c cs) e = elim (cases_Bool (is_whitespace c)) [
     between_whitespace = rw w inner.between_whitespace;
     after_whitespace = inner.after_whitespace;
   }
-  | inr w ↦ let both : is_token is_important_type c && are_whitespace cs ≡ true = rw w at e in record {
-    between = no_components;
-    word = c;
-    after = cs;
-    joined = refl;
-    is_word = and-left (is_token is_important_type c) (are_whitespace cs) both;
-    between_whitespace = refl;
-    after_whitespace = and-right (is_token is_important_type c) (are_whitespace cs) both;
-  }
+  | inr w ↦ let both : is_token is_important_type c && are_whitespace cs ≡ true = rw w at e in
+      record {
+        between = no_components;
+        word = c;
+        after = cs;
+        joined = refl;
+        is_word = and-left (is_token is_important_type c) (are_whitespace cs) both;
+        between_whitespace = refl;
+        after_whitespace = and-right (is_token is_important_type c) (are_whitespace cs) both;
+      }
 ]
 
 mark-of : (mark : Components) → is_important_mark mark ≡ true → IsMark mark
 mark-of no_components e = cc
 mark-of (component c cs) e =
-    let w : IsWord cs = word-of cs (and-right (is_token is_exclamation_type c) (is_important_word cs) e) in
+    let w : IsWord cs =
+    word-of cs (and-right (is_token is_exclamation_type c) (is_important_word cs) e) in
     record {
       exclamation = c;
       between = w.between;
@@ -116,36 +126,48 @@ mark-of (component c cs) e =
 
 -- ---- where the mark is
 
-whitespace-none : (cs : Components) (bang : Component) (more : Components) → is_token is_exclamation_type bang ≡ true
+whitespace-none : (cs : Components) (bang : Component) (more : Components)
+    → is_token is_exclamation_type bang ≡ true
     → are_whitespace (followed cs (component bang more)) ≡ false
 whitespace-none no_components bang more e = rw (exclamation-whitespace bang e) refl
-whitespace-none (component c cs) bang more e = and-false (is_whitespace c) (are_whitespace (followed cs (component bang more))) (whitespace-none cs bang more e)
+whitespace-none (component c cs) bang more e =
+    and-false (is_whitespace c) (are_whitespace (followed cs (component bang more)))
+    (whitespace-none cs bang more e)
 
-word-none : (cs : Components) (bang : Component) (more : Components) → is_token is_exclamation_type bang ≡ true
+word-none : (cs : Components) (bang : Component) (more : Components)
+    → is_token is_exclamation_type bang ≡ true
     → is_important_word (followed cs (component bang more)) ≡ false
-word-none no_components bang more e = rw (exclamation-whitespace bang e, exclamation-important bang e) refl
+word-none no_components bang more e =
+    rw (exclamation-whitespace bang e, exclamation-important bang e) refl
 word-none (component c cs) bang more e = elim (cases_Bool (is_whitespace c)) [
   | inl w ↦ rw w (word-none cs bang more e)
-  | inr w ↦ rw w (and-false (is_token is_important_type c) (are_whitespace (followed cs (component bang more))) (whitespace-none cs bang more e))
+  | inr w ↦ rw w (and-false (is_token is_important_type c)
+      (are_whitespace (followed cs (component bang more))) (whitespace-none cs bang more e))
 ]
 
 mark-none : (c : Component) (cs : Components) (bang : Component) (more : Components)
     → is_token is_exclamation_type bang ≡ true
     → is_important_mark (component c (followed cs (component bang more))) ≡ false
-mark-none c cs bang more e = and-false (is_token is_exclamation_type c) (is_important_word (followed cs (component bang more))) (word-none cs bang more e)
+mark-none c cs bang more e =
+    and-false (is_token is_exclamation_type c)
+    (is_important_word (followed cs (component bang more))) (word-none cs bang more e)
 
-before-mark : (front : Components) (bang : Component) (more : Components) → is_important_mark (component bang more) ≡ true
+before-mark : (front : Components) (bang : Component) (more : Components)
+    → is_important_mark (component bang more) ≡ true
     → before_important_mark (followed front (component bang more)) ≡ front
 before-mark no_components bang more m = rw m refl
 before-mark (component c front) bang more m =
-    let e : is_token is_exclamation_type bang ≡ true = and-left (is_token is_exclamation_type bang) (is_important_word more) m in
+    let e : is_token is_exclamation_type bang ≡ true =
+    and-left (is_token is_exclamation_type bang) (is_important_word more) m in
     rw (mark-none c front bang more e) (ap (component c) (before-mark front bang more m))
 
-has-mark : (front : Components) (bang : Component) (more : Components) → is_important_mark (component bang more) ≡ true
+has-mark : (front : Components) (bang : Component) (more : Components)
+    → is_important_mark (component bang more) ≡ true
     → has_important_mark (followed front (component bang more)) ≡ true
 has-mark no_components bang more m = rw m refl
 has-mark (component c front) bang more m =
-    rw (has-mark front bang more m) (or-true (is_important_mark (component c (followed front (component bang more)))))
+    rw (has-mark front bang more m)
+    (or-true (is_important_mark (component c (followed front (component bang more)))))
 
 -- the mark that a list ends with
 pub record IsFound (cs : Components) : Type 0 where
@@ -181,23 +203,28 @@ before-unmarked (component c cs) e = elim (cases_Bool (is_important_mark (compon
   | inr m ↦ rw m (ap (component c) (before-unmarked cs (rw m at e)))
 ]
 
-marked-has : (front mark : Components) → IsMark mark → has_important_mark (followed front mark) ≡ true
+marked-has : (front mark : Components) → IsMark mark
+    → has_important_mark (followed front mark) ≡ true
 marked-has front mark m =
     let more : Components = followed m.between (component m.word m.after) in
     let is : is_important_mark (component m.exclamation more) ≡ true =
     subst (λ cs. is_important_mark cs ≡ true) m.joined (mark-form mark m) in
-    ap (λ cs. has_important_mark (followed front cs)) m.joined ∙ has-mark front m.exclamation more is
+    ap (λ cs. has_important_mark (followed front cs)) m.joined
+    ∙ has-mark front m.exclamation more is
 
-marked-before : (front mark : Components) → IsMark mark → before_important_mark (followed front mark) ≡ front
+marked-before : (front mark : Components) → IsMark mark
+    → before_important_mark (followed front mark) ≡ front
 marked-before front mark m =
     let more : Components = followed m.between (component m.word m.after) in
     let is : is_important_mark (component m.exclamation more) ≡ true =
     subst (λ cs. is_important_mark cs ≡ true) m.joined (mark-form mark m) in
-    ap (λ cs. before_important_mark (followed front cs)) m.joined ∙ before-mark front m.exclamation more is
+    ap (λ cs. before_important_mark (followed front cs)) m.joined
+    ∙ before-mark front m.exclamation more is
 
 -- ---- values
 
-value-of : (cs : Components) → IsValue cs (trimmed (before_important_mark cs)) (has_important_mark cs)
+value-of : (cs : Components) → IsValue cs (trimmed (before_important_mark cs))
+    (has_important_mark cs)
 value-of cs = elim (cases_Bool (has_important_mark cs)) [
   | inl h ↦ let f : IsFound cs = found-mark cs h in rw h (record {
     front = f.front;
@@ -216,10 +243,12 @@ value-from : (cs value : Components) (important : Bool) → value ≡ trimmed (b
     → important ≡ has_important_mark cs → IsValue cs value important
 value-from cs value important v i = rw (v, i) (value-of cs)
 
-important-is : (cs value : Components) (important : Bool) → IsValue cs value important → has_important_mark cs ≡ important
+important-is : (cs value : Components) (important : Bool) → IsValue cs value important
+    → has_important_mark cs ≡ important
 important-is cs value true v = ap has_important_mark v.joined ∙ marked-has v.front v.mark v.is_mark
 important-is cs value false v = elim (cases_Bool (has_important_mark cs)) [
-  | inl h ↦ let f : IsFound cs = found-mark cs h in absurd (v.1 f.front f.mark f.joined (mark-of f.mark f.is_mark))
+  | inl h ↦ let f : IsFound cs = found-mark cs h in
+      absurd (v.1 f.front f.mark f.joined (mark-of f.mark f.is_mark))
   | inr h ↦ h
 ]
 
@@ -227,13 +256,16 @@ value-is : (cs value : Components) (important : Bool) → IsValue cs value impor
     → trimmed (before_important_mark cs) ≡ value
 value-is cs value true v =
     ap (λ ds. trimmed (before_important_mark ds)) v.joined
-    ∙ (ap trimmed (marked-before v.front v.mark v.is_mark) ∙ sym (padded-trimmed v.front value v.is_value))
+    ∙ (ap trimmed (marked-before v.front v.mark v.is_mark)
+    ∙ sym (padded-trimmed v.front value v.is_value))
 value-is cs value false v =
-    ap trimmed (before-unmarked cs (important-is cs value false v)) ∙ sym (padded-trimmed cs value v.0)
+    ap trimmed (before-unmarked cs (important-is cs value false v))
+    ∙ sym (padded-trimmed cs value v.0)
 
 -- ---- declarations
 
-colon-form : (between : Components) (colon : Component) (after : Components) → are_whitespace between ≡ true
+colon-form : (between : Components) (colon : Component) (after : Components)
+    → are_whitespace between ≡ true
     → is_colon colon ≡ true → after_colon (followed between (component colon after)) ≡ Some after
 colon-form no_components colon after w e = rw (colon-whitespace colon e, e) refl
 colon-form (component c between) colon after w e =
@@ -270,13 +302,18 @@ colon-of (component c cs) after e = elim (cases_Bool (is_whitespace c)) [
   ]
 ]
 
-pub declared-form : (piece : Components) (d : Declaration) → IsDeclaration piece d → declaration_of piece ≡ Some d
+pub declared-form : (piece : Components) (d : Declaration) → IsDeclaration piece d
+    → declaration_of piece ≡ Some d
 declared-form piece d is =
-    let i : has_important_mark is.after ≡ d.important = important-is is.after d.value d.important is.is_value in
-    let v : trimmed (before_important_mark is.after) ≡ d.value = value-is is.after d.value d.important is.is_value in
+    let i : has_important_mark is.after ≡ d.important =
+    important-is is.after d.value d.important is.is_value in
+    let v : trimmed (before_important_mark is.after) ≡ d.value =
+    value-is is.after d.value d.important is.is_value in
     ap declaration_of is.joined
-    ∙ (ap (λ o. declaration_from o (after_colon (followed is.between (component is.colon is.after)))) is.names
-    ∙ (ap (declaration_from (Some d.name)) (colon-form is.between is.colon is.after is.between_whitespace is.is_colon)
+    ∙ (ap (λ o. declaration_from o
+    (after_colon (followed is.between (component is.colon is.after)))) is.names
+    ∙ (ap (declaration_from (Some d.name))
+    (colon-form is.between is.colon is.after is.between_whitespace is.is_colon)
     ∙ (λ j. Some (record { name = d.name; value = v j; important = i j }))))
 
 -- what a name and what is after a `:` give
@@ -305,7 +342,8 @@ from-of (Some name) (Some after) d e =
       important_is = sym (ap (λ (x : Declaration). x.important) same);
     }
 
-pub declared-of : (piece : Components) (d : Declaration) → declaration_of piece ≡ Some d → IsDeclaration piece d
+pub declared-of : (piece : Components) (d : Declaration) → declaration_of piece ≡ Some d
+    → IsDeclaration piece d
 declared-of no_components d e = absurd (none-some d e)
 declared-of (component c cs) d e =
     let f : IsFrom (ident_of c) (after_colon cs) d = from-of (ident_of c) (after_colon cs) d e in
@@ -322,5 +360,6 @@ declared-of (component c cs) d e =
       is_value = value-from f.after d.value d.important f.value_is f.important_is;
     }
 
-pub declared : (piece : Components) (d : Declaration) → IsDeclaration piece d ↔ (declaration_of piece ≡ Some d)
+pub declared : (piece : Components) (d : Declaration)
+    → IsDeclaration piece d ↔ (declaration_of piece ≡ Some d)
 declared piece d = (declared-form piece d, declared-of piece d)

@@ -5,7 +5,8 @@ use Rattle.css_model.specs.inner.Nesting.{followed}
 use Rattle.rules_model.specs.ComponentLists.{before}
 use Rattle.rules_laws.specs.Parts.{NonePass}
 
-pub followed-followed : (bs cs ds : Components) → followed (followed bs cs) ds ≡ followed bs (followed cs ds)
+pub followed-followed : (bs cs ds : Components)
+    → followed (followed bs cs) ds ≡ followed bs (followed cs ds)
 followed-followed no_components cs ds = refl
 followed-followed (component b bs) cs ds = ap (component b) (followed-followed bs cs ds)
 
@@ -16,8 +17,10 @@ followed-end (component c cs) = ap (component c) (followed-end cs)
 pub before-end : (test : Component → Bool) (part : Components) (end : Component) (cs : Components)
     → NonePass test part → test end ≡ true → before test (followed part (component end cs)) ≡ part
 before-end test no_components end cs n e = rw e refl
-before-end test (component c part) end cs n e = rw n.0 (ap (component c) (before-end test part end cs n.1 e))
+before-end test (component c part) end cs n e =
+    rw n.0 (ap (component c) (before-end test part end cs n.1 e))
 
-pub before-all : (test : Component → Bool) (part : Components) → NonePass test part → before test part ≡ part
+pub before-all : (test : Component → Bool) (part : Components) → NonePass test part
+    → before test part ≡ part
 before-all test no_components n = refl
 before-all test (component c part) n = rw n.0 (ap (component c) (before-all test part n.1))

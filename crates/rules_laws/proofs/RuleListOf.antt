@@ -16,13 +16,15 @@ with-item : (around : List Condition) (i : RuleItem) (cs more : Components) → 
 with-item around i cs more is j l = record {
   items = i ∷ l.items;
   rest = l.rest;
-  joined = j ∙ (ap (followed (item_components i)) l.joined ∙ sym (followed-followed (item_components i) (items_components l.items) l.rest));
+  joined = j ∙ (ap (followed (item_components i)) l.joined
+      ∙ sym (followed-followed (item_components i) (items_components l.items) l.rest));
   are_items = (is, l.are_items);
   unended = l.unended;
 }
 
 -- the at-rule that begins with this at-keyword
-list-at_rule : (around : List Condition) (c : Component) (cs : Components) → is_some (at_keyword_of c) ≡ true
+list-at_rule : (around : List Condition) (c : Component) (cs : Components)
+    → is_some (at_keyword_of c) ≡ true
     → Split (IsRuleList around) ends_at_rule cs → IsRuleList around (component c cs)
 list-at_rule around c cs k (inl n) = record {
   items = [];
@@ -34,11 +36,13 @@ list-at_rule around c cs k (inl n) = record {
 list-at_rule around c cs k (inr s) =
     with-item around (at_rule c s.part s.end) (component c cs) s.more
     (record { is_keyword = k; no_end = s.none_pass }, s.passes)
-    (ap (component c) (s.joined ∙ sym (followed-followed s.part (component s.end no_components) s.more)))
+    (ap (component c) (s.joined ∙ sym
+    (followed-followed s.part (component s.end no_components) s.more)))
     s.holds
 
 -- the qualified rule that begins with this component
-list-prelude : (around : List Condition) (c : Component) (cs : Components) → is_between_rules around c ≡ false
+list-prelude : (around : List Condition) (c : Component) (cs : Components)
+    → is_between_rules around c ≡ false
     → is_some (at_keyword_of c) ≡ false → is_curly_block c ≡ false
     → Split (IsRuleList around) is_curly_block cs → IsRuleList around (component c cs)
 list-prelude around c cs b k e (inl n) = record {
@@ -51,7 +55,8 @@ list-prelude around c cs b k e (inl n) = record {
 list-prelude around c cs b k e (inr s) =
     with-item around (qualified_rule (component c s.part) s.end) (component c cs) s.more
     (record { begins = (b, k); no_block = (e, s.none_pass) }, s.passes)
-    (ap (component c) (s.joined ∙ sym (followed-followed s.part (component s.end no_components) s.more)))
+    (ap (component c) (s.joined ∙ sym
+    (followed-followed s.part (component s.end no_components) s.more)))
     s.holds
 
 list-block : (around : List Condition) (c : Component) (cs : Components) → is_curly_block c ≡ true
@@ -79,7 +84,8 @@ mutual
     ]
   ]
 
-  split-of : (around : List Condition) (test : Component → Bool) (cs : Components) → Split (IsRuleList around) test cs
+  split-of : (around : List Condition) (test : Component → Bool) (cs : Components)
+      → Split (IsRuleList around) test cs
   split-of around test no_components = inl tt
   split-of around test (component c cs) = elim (cases_Bool (test c)) [
     | inl e ↦ split-here (IsRuleList around) test c cs e (list-of around cs)

@@ -5,7 +5,8 @@ use Rattle.css_model.specs.inner.Nesting.{followed}
 use Rattle.rules_laws.specs.Parts.{NonePass}
 
 -- a part in which none passes, one that passes, and a rest of which this holds
-pub record IsSplit (Holds : Components → Type 0) (test : Component → Bool) (cs : Components) : Type 0 where
+pub record IsSplit (Holds : Components → Type 0) (test : Component → Bool) (cs : Components) : Type
+    0 where
   pub part : Components
   pub end : Component
   pub more : Components
@@ -18,7 +19,8 @@ pub record IsSplit (Holds : Components → Type 0) (test : Component → Bool) (
 abbrev pub Split : (Components → Type 0) → (Component → Bool) → Components → Type 0
 Split Holds test cs = NonePass test cs ⊎ IsSplit Holds test cs
 
-pub split-here : (Holds : Components → Type 0) (test : Component → Bool) (c : Component) (cs : Components)
+pub split-here : (Holds : Components → Type 0) (test : Component → Bool) (c : Component)
+    (cs : Components)
     → test c ≡ true → Holds cs → Split Holds test (component c cs)
 split-here Holds test c cs e h = inr (record {
   part = no_components;
@@ -30,7 +32,8 @@ split-here Holds test c cs e h = inr (record {
   holds = h;
 })
 
-pub split-later : (Holds : Components → Type 0) (test : Component → Bool) (c : Component) (cs : Components)
+pub split-later : (Holds : Components → Type 0) (test : Component → Bool) (c : Component)
+    (cs : Components)
     → test c ≡ false → Split Holds test cs → Split Holds test (component c cs)
 split-later Holds test c cs e (inl n) = inl (e, n)
 split-later Holds test c cs e (inr s) = inr (record {

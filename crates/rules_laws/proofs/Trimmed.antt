@@ -34,10 +34,12 @@ front-begins (component c cs) = elim (cases_Bool (is_whitespace c)) [
   | inr e ↦ rw e e
 ]
 
-front-all : (cs : Components) → are_whitespace cs ≡ true → without_front_whitespace cs ≡ no_components
+front-all : (cs : Components) → are_whitespace cs ≡ true
+    → without_front_whitespace cs ≡ no_components
 front-all no_components e = refl
 front-all (component c cs) e =
-    rw (and-left (is_whitespace c) (are_whitespace cs) e) (front-all cs (and-right (is_whitespace c) (are_whitespace cs) e))
+    rw (and-left (is_whitespace c) (are_whitespace cs) e)
+    (front-all cs (and-right (is_whitespace c) (are_whitespace cs) e))
 
 front-dropped : (front cs : Components) → are_whitespace front ≡ true
     → without_front_whitespace (followed front cs) ≡ without_front_whitespace cs
@@ -96,11 +98,14 @@ end-all (component c cs) e = rw e refl
 last-whitespace : (c : Component) (cs back : Components) → is_whitespace (last_of c cs) ≡ false
     → are_whitespace (component c (followed cs back)) ≡ false
 last-whitespace c no_components back e = rw e refl
-last-whitespace c (component d ds) back e = rw (last-whitespace d ds back e) (and-false (is_whitespace c) false refl)
+last-whitespace c (component d ds) back e =
+    rw (last-whitespace d ds back e) (and-false (is_whitespace c) false refl)
 
-end-exact : (c : Component) (cs back : Components) → is_whitespace (last_of c cs) ≡ false → are_whitespace back ≡ true
+end-exact : (c : Component) (cs back : Components) → is_whitespace (last_of c cs) ≡ false
+    → are_whitespace back ≡ true
     → without_end_whitespace (component c (followed cs back)) ≡ component c cs
-end-exact c no_components back e w = rw (last-whitespace c no_components back e) (ap (component c) (end-all back w))
+end-exact c no_components back e w =
+    rw (last-whitespace c no_components back e) (ap (component c) (end-all back w))
 end-exact c (component d ds) back e w =
     rw (last-whitespace c (component d ds) back e) (ap (component c) (end-exact d ds back e w))
 
@@ -117,7 +122,8 @@ trimmed-padded cs = record {
   ends = end-ends (without_front_whitespace cs);
 }
 
-part-exact : (part back : Components) → BeginsWithout part → EndsWithout part → are_whitespace back ≡ true
+part-exact : (part back : Components) → BeginsWithout part → EndsWithout part
+    → are_whitespace back ≡ true
     → trimmed (followed part back) ≡ part
 part-exact no_components back b e w = ap without_end_whitespace (front-all back w)
 part-exact (component c part) back b e w = rw b (end-exact c part back e w)

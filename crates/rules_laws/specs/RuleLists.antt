@@ -44,8 +44,10 @@ pub record BeginsAtRule (keyword : Component) (prelude : Components) : Type 0 wh
 -- this is an item of a list of rules with these conditions around it
 abbrev pub IsItem : List Condition → RuleItem → Type 0
 IsItem around (between_rules c) = is_between_rules around c ≡ true
-IsItem around (at_rule keyword prelude end) = BeginsAtRule keyword prelude × (ends_at_rule end ≡ true)
-IsItem around (qualified_rule prelude block) = IsPrelude around prelude × (is_curly_block block ≡ true)
+IsItem around (at_rule keyword prelude end) =
+    BeginsAtRule keyword prelude × (ends_at_rule end ≡ true)
+IsItem around (qualified_rule prelude block) =
+    IsPrelude around prelude × (is_curly_block block ≡ true)
 
 abbrev pub AreItems : List Condition → List RuleItem → Type 0
 AreItems around [] = Unit {0}
@@ -61,7 +63,8 @@ item_rules around (qualified_rule prelude block) = style_rule around prelude blo
 abbrev pub items_rules : List Condition → List RuleItem → List StyleRule
 items_rules around items = flat_map (item_rules around) items
 
--- what is left where the list ends inside a rule: an at-rule without its end, or a prelude, or nothing
+-- what is left where the list ends inside a rule: an at-rule without its end, or a prelude, or
+-- nothing
 abbrev pub IsUnended : List Condition → Components → Type 0
 IsUnended around cs = IsPrelude around cs
     ⊎ ((keyword : Component) × (prelude : Components) × (cs ≡ component keyword prelude)

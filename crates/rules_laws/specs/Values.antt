@@ -29,7 +29,8 @@ pub record IsMarked (cs value : Components) : Type 0 where
 -- what is after a `:` is this value, important or not
 abbrev pub IsValue : Components → Components → Bool → Type 0
 IsValue cs value true = IsMarked cs value
-IsValue cs value false = IsPadded cs value × ((front mark : Components) → cs ≡ followed front mark → IsMark mark → ⊥)
+IsValue cs value false =
+    IsPadded cs value × ((front mark : Components) → cs ≡ followed front mark → IsMark mark → ⊥)
 
 -- these are a declaration: a name, perhaps white space, `:`, and a value
 pub record IsDeclaration (piece : Components) (d : Declaration) : Type 0 where

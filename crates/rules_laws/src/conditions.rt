@@ -12,11 +12,13 @@ ghost use Rattle.std.specs.Prelude.{◌≡◌, ◌++◌, ◌∷◌, [], List, Op
 /// The rules in the block of an at-rule that is kept have its condition after those around it.
 pub fn of_block()
     ensures { (around : List Condition) (keyword : Component) (kind : ConditionalRule)
-        (prelude : Components) (head : Token) (contents : Components) (close : Option Token) (rest : Components)
+        (prelude : Components) (head : Token) (contents : Components) (close : Option Token)
+        (rest : Components)
         → BeginsAtRule keyword prelude
         → option_and_then conditional_rule_of (at_keyword_of keyword) ≡ Some kind
         → is_curly_block (simple_block head contents close) ≡ true
-        → rules_in around (component keyword (followed prelude (component (simple_block head contents close) rest)))
+        → rules_in around (component keyword
+        (followed prelude (component (simple_block head contents close) rest)))
         ≡ rules_in (around ++ (record { at_rule = kind; prelude = trimmed prelude } ∷ [])) contents
         ++ rules_in around rest }
 {}

@@ -15,7 +15,8 @@ pub fn exist()
 
 /// The style rules of whole rules are those of each, in their order.
 pub fn of_items()
-    ensures { (around : List Condition) (items : List RuleItem) (rest : Components) → AreItems around items
+    ensures { (around : List Condition) (items : List RuleItem) (rest : Components)
+        → AreItems around items
         → rules_in around (followed (items_components items) rest)
         ≡ items_rules around items ++ rules_in around rest }
 {}
@@ -23,14 +24,17 @@ pub fn of_items()
 /// The style rules of two lists, where the first ends with a whole rule, are those of the first and
 /// then those of the second.
 pub fn joined()
-    ensures { (around : List Condition) (items : List RuleItem) (rest : Components) → AreItems around items
+    ensures { (around : List Condition) (items : List RuleItem) (rest : Components)
+        → AreItems around items
         → rules_in around (followed (items_components items) rest)
         ≡ rules_in around (items_components items) ++ rules_in around rest }
 {}
 
-/// A rule that is not whole adds none: a qualified rule without a block, an at-rule without its end.
+/// A rule that is not whole adds none: a qualified rule without a block, an at-rule without its
+/// end.
 pub fn unended()
-    ensures { (around : List Condition) (items : List RuleItem) (rest : Components) → AreItems around items
+    ensures { (around : List Condition) (items : List RuleItem) (rest : Components)
+        → AreItems around items
         → IsUnended around rest
         → rules_in around (followed (items_components items) rest) ≡ items_rules around items }
 {}
@@ -41,7 +45,8 @@ pub fn another_at_rule()
         (prelude : Components) (end : Component) (rest : Components) → AreItems around items
         → BeginsAtRule keyword prelude → ends_at_rule end ≡ true
         → option_and_then conditional_rule_of (at_keyword_of keyword) ≡ None
-        → rules_in around (followed (items_components items) (component keyword (followed prelude (component end rest))))
+        → rules_in around (followed (items_components items)
+        (component keyword (followed prelude (component end rest))))
         ≡ rules_in around (followed (items_components items) rest) }
 {}
 
@@ -50,11 +55,13 @@ pub fn at_rule_without_block()
     ensures { (around : List Condition) (items : List RuleItem) (keyword : Component)
         (prelude : Components) (end : Component) (rest : Components) → AreItems around items
         → BeginsAtRule keyword prelude → is_semicolon end ≡ true
-        → rules_in around (followed (items_components items) (component keyword (followed prelude (component end rest))))
+        → rules_in around (followed (items_components items)
+        (component keyword (followed prelude (component end rest))))
         ≡ rules_in around (followed (items_components items) rest) }
 {}
 
-/// The tokens of preludes and of the values of declarations stand in the list, in the order of the rules.
+/// The tokens of preludes and of the values of declarations stand in the list, in the order of the
+/// rules.
 pub fn in_order()
     ensures { (around : List Condition) (cs : Components) →
         IsSublist (rule_tokens (rules_in around cs)) (all_tokens_of cs) }

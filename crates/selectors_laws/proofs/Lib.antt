@@ -3,3 +3,7 @@ pub mod Sums
 pub mod WhiteSpace
 pub mod Forgiving
 pub mod Positions
+pub mod Ancestors
+pub mod Siblings
+pub mod Closures
+pub mod Steps

@@ -10,7 +10,8 @@ use Rattle.selectors_model.specs.Selectors.{Simple, Compound, no_simples, simple
 abbrev pub IsMatch : Node → Selector → ℕ → Type 0
 IsMatch root (compound c) i = compound_matches root c i ≡ true
 IsMatch root (combined s combinator c) i =
-    (compound_matches root c i ≡ true) × (e : ℕ) × IsAmong e (left_of combinator i root) × IsMatch root s e
+    (compound_matches root c i ≡ true) × (e : ℕ) × IsAmong e (left_of combinator i root)
+    × IsMatch root s e
 
 -- the simple selector is in the compound
 abbrev pub IsIn : Simple → Compound → Type 0

@@ -5,11 +5,13 @@ ghost use Rattle.selectors_model.specs.Grammar.{Atom, arguments_of, functional_p
 ghost use Rattle.selectors_model.specs.Selectors.{Selector, SelectorList, is_pseudo_class, not_pseudo_class, where_pseudo_class};
 ghost use Rattle.std.specs.Prelude.{◌≡◌, ◌∷◌, ◌++◌, [], codes, List, None, Option, Some, true, false};
 
-/// White space at the ends of a list, and beside a comma, a combinator or other white space, changes
+/// White space at the ends of a list, and beside a comma, a combinator or other white space,
+/// changes
 /// nothing.
 pub fn white_space()
     ensures in_front { (atoms : List Atom) → members_of (white ∷ atoms) ≡ members_of atoms }
-    ensures at_the_end { (atoms : List Atom) → members_of (atoms ++ (white ∷ [])) ≡ members_of atoms }
+    ensures at_the_end { (atoms : List Atom)
+        → members_of (atoms ++ (white ∷ [])) ≡ members_of atoms }
     ensures before { (front : List Atom) (a : Atom) (rest : List Atom) → is_in_compound a ≡ false
         → members_of (front ++ (white ∷ a ∷ rest)) ≡ members_of (front ++ (a ∷ rest)) }
     ensures after { (front : List Atom) (a : Atom) (rest : List Atom) → is_in_compound a ≡ false
@@ -18,7 +20,8 @@ pub fn white_space()
 
 /// A forgiving list is that of its valid members, and where all are valid it is the list itself.
 pub fn forgiving()
-    ensures of_valid { (members : List (Option Selector)) → list_of_all (valid_members members) ≡ Some (list_of_valid members) }
+    ensures of_valid { (members : List (Option Selector))
+        → list_of_all (valid_members members) ≡ Some (list_of_valid members) }
     ensures the_same { (members : List (Option Selector)) (list : SelectorList)
         → list_of_all members ≡ Some list → list_of_valid members ≡ list }
 {}

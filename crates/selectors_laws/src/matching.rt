@@ -30,22 +30,26 @@ pub fn is_and_where()
 /// `:not()` matches exactly where none of its members does.
 pub fn negation()
     ensures { (root : Node) (list : SelectorList) (i : ℕ)
-        → (simple_matches root (not_pseudo_class list) i ≡ true) ↔ ((s : Selector) → IsMember s list → matches root s i ≡ false) }
+        → (simple_matches root (not_pseudo_class list) i ≡ true)
+        ↔ ((s : Selector) → IsMember s list → matches root s i ≡ false) }
 {}
 
 /// A compound matches exactly where each of its simple selectors does.
 pub fn each_simple()
     ensures { (root : Node) (c : Compound) (i : ℕ)
-        → (compound_matches root c i ≡ true) ↔ ((s : Simple) → IsIn s c → simple_matches root s i ≡ true) }
+        → (compound_matches root c i ≡ true)
+        ↔ ((s : Simple) → IsIn s c → simple_matches root s i ≡ true) }
 {}
 
 /// The order of simple selectors does not matter: two compounds joined match where both do.
 pub fn joined()
     ensures { (root : Node) (c d : Compound) (i : ℕ)
-        → compound_matches root (compounds_joined c d) i ≡ compound_matches root c i && compound_matches root d i }
+        → compound_matches root (compounds_joined c d) i ≡ compound_matches root c i
+        && compound_matches root d i }
 {}
 
-/// A selector matches nothing where one of its compounds has a simple selector that matches nothing,
+/// A selector matches nothing where one of its compounds has a simple selector that matches
+/// nothing,
 /// such as `:hover`, a pseudo-element or `:is()`.
 pub fn matches_nothing()
     ensures { (root : Node) (s : Selector) (c : Compound) (never : Simple)

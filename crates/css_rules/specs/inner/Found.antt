@@ -42,7 +42,8 @@ pub record IsInside (f : Found) (around : Option ℕ) : Type 0 where
 pub record Adds (old new : Found) (added : List model.StyleRule) : Type 0 where
   pub more : length old.conditions ≤ length new.conditions
   pub places : ArePlaces (length new.conditions) new.rules
-  pub same : (place : Option ℕ) → IsPlace (length old.conditions) place → around_of new place ≡ around_of old place
+  pub same : (place : Option ℕ) → IsPlace (length old.conditions) place
+      → around_of new place ≡ around_of old place
   pub rules : rules_found new ≡ rules_found old ++ added
 
 -- the rules from the front of all were found, and these are left

@@ -36,7 +36,8 @@ abbrev mutual
 -- what the next one, if there is one, tells of all that were ahead
 abbrev pub IsNext : Option code.Component → Components → Components → Type 0
 IsNext o old new =
-    MatchOption o ((old ≡ no_components) × (new ≡ no_components)) (λ c. old ≡ component (component_view c) new)
+    MatchOption o ((old ≡ no_components) × (new ≡ no_components))
+    (λ c. old ≡ component (component_view c) new)
 
 -- what the last one, if there is one, tells of all
 abbrev pub IsLast : Option code.Component → List code.Component → List code.Component → Type 0

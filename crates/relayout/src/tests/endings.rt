@@ -1,5 +1,5 @@
 //! How a run ends, what it has written then, and what the ledger has.
-use crate::tests::{Case, ONE_BOX, ONE_BOX_REPLIES, expect, words};
+use crate::tests::{Case, ONE_BOX, ONE_BOX_REPLIES, ending, expect, words};
 use port_core::{MemSink, MemSource, NoMemory, Steps};
 use relayout_cli::{Status, run};
 use std::alloc::Global;
@@ -83,7 +83,7 @@ fn expect_usage(
     let mut source = MemSource::new(alloc, ONE_BOX, 1000, None)?;
     let mut sink = MemSink::new(alloc, room)?;
     let mut steps = Steps::new(());
-    let given = run(alloc, words, &mut source, &mut sink, &mut steps);
+    let given = ending(run(alloc, words, &mut source, &mut sink, &mut steps))?;
     assert_eq!(rt; given, status);
     assert_eq!(rt; sink.bytes(), &usage[..room.min(usage.len())]);
     Ok(())
@@ -116,7 +116,7 @@ fn pairs_after(alloc: Global, script: &[u8]) -> Result<u64, NoMemory> {
     let mut sink = MemSink::new(alloc, 1000)?;
     let mut steps = Steps::new(());
     steps.tick(Kind::Match, 0);
-    let _status = run(alloc, words.as_slice(), &mut source, &mut sink, &mut steps);
+    let _status = ending(run(alloc, words.as_slice(), &mut source, &mut sink, &mut steps))?;
     Ok(steps.count(Kind::Match))
 }
 

@@ -1,6 +1,7 @@
 //! The order of pulls and pushes, seen by a source and a sink that count them together.
 ghost use Rattle.std.specs.Prelude.{None};
 
+use crate::tests::ending;
 use port_core::{NoMemory, Pull, Push, Sink, Source, Steps};
 use relayout_cli::{Status, serve};
 use std::alloc::Global;
@@ -83,7 +84,7 @@ fn expect(
         faults: 0,
     };
     let mut steps = Steps::new(());
-    let given = serve(alloc, 1, &mut source, &mut sink, &mut steps);
+    let given = ending(serve(alloc, 1, &mut source, &mut sink, &mut steps))?;
     assert_eq!(rt; given, status);
     assert!(rt; source.in_time);
     assert_eq!(rt; (source.pulls, pushes.get()), counts);

@@ -8,9 +8,12 @@ use Rattle.css_rules.proofs.declaration_lists.parse_style_attr.Goals as goal
 
 pub returns-in-Ok : goal.returns-in-Ok
 returns-in-Ok c =
-    let read = style-read (chars c.args.text.now) (components_view c.in-Ok.components) c.in-Ok.ensures.components c.in-Ok.ensures.low in
+    let read = style-read (chars c.args.text.now) (components_view c.in-Ok.components)
+    c.in-Ok.ensures.components c.in-Ok.ensures.low in
     IfOk-weaker c.declarations_in.result _ _ (λ ds is. is ∙ read) c.declarations_in.ensures
 
 pub returns-in-Err-TooDeep : goal.returns-in-Err-TooDeep
 returns-in-Err-TooDeep c =
-    ap declarations_view c.new.ensures ∙ style-deep (chars c.args.text.now) (c.in-Err-TooDeep.ensures.deep (ap Err c.in-Err-TooDeep.field-0-is))
+    ap declarations_view c.new.ensures
+    ∙ style-deep (chars c.args.text.now)
+    (c.in-Err-TooDeep.ensures.deep (ap Err c.in-Err-TooDeep.field-0-is))

@@ -5,4 +5,5 @@ use Rattle.css_rules.proofs.important.is_important_word.Given as goal
 
 abbrev pub invariant-loop-place : goal.invariant-loop-place
 invariant-loop-place l =
-    is_important_word (components_view (drop l.place l.components)) ≡ is_important_word (components_view l.components)
+    is_important_word (components_view (drop l.place l.components))
+    ≡ is_important_word (components_view l.components)

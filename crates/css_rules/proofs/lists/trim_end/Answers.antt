@@ -8,11 +8,14 @@ use Rattle.css_rules.proofs.lists.trim_end.Goals as goal
 pub loop-components-preserved : goal.loop-components-preserved
 loop-components-preserved c =
     let white : ends_with is_whitespace (components_view c.loop-components.components) ≡ true =
-    ap (λ cs. ends_with is_whitespace (components_view cs)) (sym c.as_slice.ensures) ∙ (sym c.ends_with_whitespace.ensures ∙ c.loop-components-test.true) in
-    (end-passed c.drop_last.ensures.0 c.loop-components.components c.drop_last.new.components c.drop_last.ensures.1 white).0 ∙ c.loop-components.invariant
+    ap (λ cs. ends_with is_whitespace (components_view cs)) (sym c.as_slice.ensures)
+    ∙ (sym c.ends_with_whitespace.ensures ∙ c.loop-components-test.true) in
+    (end-passed c.drop_last.ensures.0 c.loop-components.components c.drop_last.new.components
+    c.drop_last.ensures.1 white).0 ∙ c.loop-components.invariant
 
 pub returns : goal.returns
 returns c =
     let done : ends_with is_whitespace (components_view c.loop-components.components) ≡ false =
-    ap (λ cs. ends_with is_whitespace (components_view cs)) (sym c.as_slice.ensures) ∙ (sym c.ends_with_whitespace.ensures ∙ c.loop-components-test.false) in
+    ap (λ cs. ends_with is_whitespace (components_view cs)) (sym c.as_slice.ensures)
+    ∙ (sym c.ends_with_whitespace.ensures ∙ c.loop-components-test.false) in
     sym (end-done (components_view c.loop-components.components) done) ∙ c.loop-components.invariant

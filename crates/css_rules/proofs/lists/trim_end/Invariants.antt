@@ -6,7 +6,8 @@ use Rattle.css_rules.proofs.lists.trim_end.Given as goal
 
 abbrev pub invariant-loop-components : goal.invariant-loop-components
 invariant-loop-components l =
-    without_end_whitespace (components_view l.components) ≡ without_end_whitespace (components_view l.fn.components)
+    without_end_whitespace (components_view l.components)
+    ≡ without_end_whitespace (components_view l.fn.components)
 
 abbrev pub decreases-loop-components : goal.decreases-loop-components
 decreases-loop-components l = length l.components

@@ -9,7 +9,8 @@ use Rattle.css_rules.proofs.rules.+rules.Given as goal
 
 abbrev pub invariant-find_rules-loop-first : goal.invariant-find_rules-loop-first
 invariant-find_rules-loop-first l =
-    Reads l.fn.found l.found (around_of l.fn.found l.around) (components_view l.fn.contents) (left_of l.ahead)
+    Reads l.fn.found l.found (around_of l.fn.found l.around) (components_view l.fn.contents)
+    (left_of l.ahead)
 
 abbrev pub decreases-find_rules-loop-first : goal.decreases-find_rules-loop-first
 decreases-find_rules-loop-first l = total (left_of l.ahead)

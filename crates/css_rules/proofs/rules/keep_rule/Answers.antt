@@ -10,9 +10,17 @@ use Rattle.css_rules.proofs.rules.keep_rule.Goals as goal
 
 pub returns : goal.returns
 returns c =
-    let after : Found = record { conditions = c.args.found.now.conditions; rules = c.push.new.self } in
-    let rule : StyleRule = record { prelude = c.args.prelude; around = c.args.around; declarations = c.in_ok-declarations.declarations } in
+    let after : Found =
+    record { conditions = c.args.found.now.conditions; rules = c.push.new.self } in
+    let rule : StyleRule =
+    record {
+      prelude = c.args.prelude;
+      around = c.args.around;
+      declarations =
+          c.in_ok-declarations.declarations;
+    } in
     on_ok_weaker c.push.result
-    (λ pushed. rule-kept c.args.found.now after rule (component_view c.args.block) c.requires refl pushed
+    (λ pushed. rule-kept c.args.found.now after rule (component_view c.args.block) c.requires refl
+    pushed
     (c.in_ok-declarations.ensures ∙ ap declarations_of c.into_contents.ensures))
     c.push.ensures.ok

@@ -10,23 +10,47 @@ use Rattle.css_rules.proofs.sheets.parse_sheet.Goals as goal
 
 pub returns-then-text-gt-MAX_SHEET_BYTES-clause-limit : goal.returns-then-text-gt-MAX_SHEET_BYTES-clause-limit
 returns-then-text-gt-MAX_SHEET_BYTES-clause-limit c =
-    limit-large (chars c.args.text.now) (omega (arith, bytes-length c.args.text.now c.utf8.text, c.if-text-gt-MAX_SHEET_BYTES.true))
+    limit-large (chars c.args.text.now)
+    (omega (arith, bytes-length c.args.text.now c.utf8.text, c.if-text-gt-MAX_SHEET_BYTES.true))
 
 pub returns-in-Err-TooDeep-clause-limit : goal.returns-in-Err-TooDeep-clause-limit
 returns-in-Err-TooDeep-clause-limit c =
-    limit-deep (chars c.args.text.now) (omega (arith, bytes-length c.args.text.now c.utf8.text, c.if-text-gt-MAX_SHEET_BYTES.false))
+    limit-deep (chars c.args.text.now)
+    (omega (
+      arith,
+      bytes-length c.args.text.now c.utf8.text,
+      c.if-text-gt-MAX_SHEET_BYTES.false,
+    ))
     (c.in-Err-TooDeep.ensures.deep (ap Err c.in-Err-TooDeep.field-0-is))
 
 pub returns-then-len-gt-MAX_STYLE_RULES-clause-limit : goal.returns-then-len-gt-MAX_STYLE_RULES-clause-limit
 returns-then-len-gt-MAX_STYLE_RULES-clause-limit c =
-    let low : depths (components_of (chars c.args.text.now)) ≤ MAX_NESTING = subst (λ (cs : Components). depths cs ≤ MAX_NESTING) c.in-Ok.ensures.components c.in-Ok.ensures.low in
-    let count = count-is c.in_ok-found.found (chars c.args.text.now) (components_view c.in-Ok.components) c.in_ok-found.ensures c.in-Ok.ensures.components in
-    limit-many (chars c.args.text.now) (omega (arith, bytes-length c.args.text.now c.utf8.text, c.if-text-gt-MAX_SHEET_BYTES.false)) low
+    let low : depths (components_of (chars c.args.text.now)) ≤ MAX_NESTING =
+    subst (λ (cs : Components). depths cs ≤ MAX_NESTING) c.in-Ok.ensures.components
+    c.in-Ok.ensures.low in
+    let count =
+    count-is c.in_ok-found.found (chars c.args.text.now) (components_view c.in-Ok.components)
+    c.in_ok-found.ensures c.in-Ok.ensures.components in
+    limit-many (chars c.args.text.now)
+    (omega (
+      arith,
+      bytes-length c.args.text.now c.utf8.text,
+      c.if-text-gt-MAX_SHEET_BYTES.false,
+    )) low
     (omega (arith, count, c.len.ensures, c.if-len-gt-MAX_STYLE_RULES.true))
 
 pub returns-clause-limit : goal.returns-clause-limit
 returns-clause-limit c =
-    let low : depths (components_of (chars c.args.text.now)) ≤ MAX_NESTING = subst (λ (cs : Components). depths cs ≤ MAX_NESTING) c.in-Ok.ensures.components c.in-Ok.ensures.low in
-    let count = count-is c.in_ok-found.found (chars c.args.text.now) (components_view c.in-Ok.components) c.in_ok-found.ensures c.in-Ok.ensures.components in
-    limit-none (chars c.args.text.now) (omega (arith, bytes-length c.args.text.now c.utf8.text, c.if-text-gt-MAX_SHEET_BYTES.false)) low
+    let low : depths (components_of (chars c.args.text.now)) ≤ MAX_NESTING =
+    subst (λ (cs : Components). depths cs ≤ MAX_NESTING) c.in-Ok.ensures.components
+    c.in-Ok.ensures.low in
+    let count =
+    count-is c.in_ok-found.found (chars c.args.text.now) (components_view c.in-Ok.components)
+    c.in_ok-found.ensures c.in-Ok.ensures.components in
+    limit-none (chars c.args.text.now)
+    (omega (
+      arith,
+      bytes-length c.args.text.now c.utf8.text,
+      c.if-text-gt-MAX_SHEET_BYTES.false,
+    )) low
     (omega (arith, count, c.len.ensures, c.if-len-gt-MAX_STYLE_RULES.false))

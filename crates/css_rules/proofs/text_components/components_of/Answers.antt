@@ -10,10 +10,13 @@ use Rattle.css_rules.proofs.text_components.components_of.Goals as goal
 pub returns-clause-components : goal.returns-clause-components
 returns-clause-components c =
     IfOk-weaker c.components.result _ _
-    (λ cs nested. components-text (chars c.args.text.now) c.in_ok-tokens.tokens (components_view cs) c.in_ok-tokens.ensures.tokens nested.0)
+    (λ cs nested. components-text (chars c.args.text.now) c.in_ok-tokens.tokens (components_view cs)
+    c.in_ok-tokens.ensures.tokens nested.0)
     c.components.ensures.nested
 
 pub returns-clause-deep : goal.returns-clause-deep
 returns-clause-deep c = λ e.
     let deep = c.components.ensures.deep e in
-    subst (λ cs. MAX_NESTING < depths cs) (components-text (chars c.args.text.now) c.in_ok-tokens.tokens deep.0 c.in_ok-tokens.ensures.tokens deep.1) deep.2
+    subst (λ cs. MAX_NESTING < depths cs)
+    (components-text (chars c.args.text.now) c.in_ok-tokens.tokens deep.0
+    c.in_ok-tokens.ensures.tokens deep.1) deep.2

@@ -1,5 +1,5 @@
-use Rattle.selectors_laws.proofs.Positions.{position-of}
+use Rattle.selectors_laws.proofs.Positions.{of-position, position-of}
 use Rattle.selectors_laws.proofs.an_plus_b.positions.Goals as goal
 
 pub returns : goal.returns
-returns c = position-of
+returns c = λ at p. (position-of at p, of-position at p)

@@ -6,7 +6,8 @@ use Rattle.css_rules.specs.inner.Reading.{stacked}
 use Rattle.css_rules.proofs.ahead.Ahead.new.Given as goal
 
 abbrev pub invariant-loop-last : goal.invariant-loop-last
-invariant-loop-last l = followed (components_view l.components) (stacked l.stack) ≡ components_view l.fn.components
+invariant-loop-last l =
+    followed (components_view l.components) (stacked l.stack) ≡ components_view l.fn.components
 
 abbrev pub decreases-loop-last : goal.decreases-loop-last
 decreases-loop-last l = length l.components
