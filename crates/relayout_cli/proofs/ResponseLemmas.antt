@@ -1,7 +1,6 @@
 -- How what a line asks for is answered.
-use Rattle.std.proofs.Common.{◌≡◌, ◌∙◌, sym, ap, subst, refl, ℕ, zero, suc, List, [], ◌∷◌, ◌++◌, Bool, true, false, not, inl, inr, Option, Some, None, Result, Ok, Err, OnOk, is_none}
+use Rattle.std.proofs.Common.{◌≡◌, ◌∙◌, sym, ap, subst, refl, ℕ, zero, suc, List, [], ◌∷◌, ◌++◌, Bool, true, false, inl, inr, Option, Some, None, Result, Ok, Err, OnOk, is_none}
 use Rattle.std.proofs.lemmas.Bool.{false≢true}
-use Rattle.std.specs.List.{list_any}
 use Rattle.stream_model.specs.Ledger.{Log}
 use Rattle.page_model.specs.Pages.{State}
 use Rattle.page_model.specs.Trees.{Tree, elem, characters, is_elem}
@@ -13,7 +12,7 @@ use Rattle.request_model.specs.declared.query.Query.{Query}
 use Rattle.request_model.specs.declared.query.Query.TheVariants.{Dump, Rules}
 use Rattle.request_model.specs.declared.accepted.Accepted.{Accepted}
 use Rattle.request_model.specs.Requests.{Edit, load, insert, remove, sheet, Request, edit, query, Asked, nothing, broken, request}
-use Rattle.request_model.specs.States.{Answer, silent, refused, accepted, answer_to, answer_by, refusal_of, form_causes, request_causes, edit_causes, state_after_edit, accepted_by, brings_tree, most_logs, logs_of_refused, is_plain, has_style_rule}
+use Rattle.request_model.specs.States.{Answer, silent, refused, accepted, answer_to, answer_by, refusal_of, form_causes, request_causes, edit_causes, state_after_edit, accepted_by, brings_tree, most_logs, logs_of_refused, has_text, is_styled_page}
 use Rattle.layout_model.specs.Setting.{Setting}
 use Rattle.reply_model.specs.Spelling.{error_line, ok_line}
 use Rattle.reply_model.specs.RulesText.{rules_text}
@@ -66,12 +65,12 @@ pub forms-built : (q : Request) → is_none (first_of (form_causes q)) ≡ true 
 forms-built q h = none-is_none (first_of (form_causes q)) h
 
 -- the document of a load whose form is built is an element
-plain-root : (doc : Tree) → first_of ((not (is_plain doc), NotBuilt) ∷ []) ≡ None → is_elem doc ≡ true
-plain-root (elem name attributes kids) h = refl
-plain-root (characters text) h = absurd (cc)
+textless-root : (doc : Tree) → first_of ((has_text doc, NotBuilt) ∷ []) ≡ None → is_elem doc ≡ true
+textless-root (elem name attributes kids) h = refl
+textless-root (characters text) h = absurd (cc)
 
 pub built-root : (e : Edit) → first_of (form_causes (edit e)) ≡ None → HasRoot e
-built-root (load width height doc sheets) h = plain-root doc h
+built-root (load width height doc sheets) h = textless-root doc h
 built-root (insert parent index new) h = tt
 built-root (remove id) h = tt
 built-root (sheet at css) h = tt
@@ -146,8 +145,8 @@ one-holds b c h = rw h refl
 one-fails : (b : Bool) (c : Cause) → b ≡ false → first_of ((b, c) ∷ []) ≡ None
 one-fails b c h = rw h refl
 
--- a dump, by whether a sheet has a style rule
-response-dump : (page : KeptPage) (reply : List ℕ) (b : Bool) → list_any has_style_rule ((page_view page).sheets) ≡ b → IsDumpBy b (page_view page) reply
+-- a dump, by whether a box may be another than that of a plain block
+response-dump : (page : KeptPage) (reply : List ℕ) (b : Bool) → is_styled_page (page_view page) ≡ b → IsDumpBy b (page_view page) reply
     → IsResponse (request (query Dump)) (empty_logs (most_logs (request (query Dump)))) reply (Some page) (Some page)
 response-dump page reply true is h = response-cause (Some page) (query Dump) NotBuilt reply refl (one-holds _ NotBuilt is) h
 response-dump page reply false is h = λ setting from at. (
@@ -207,14 +206,14 @@ OnOk-rules (Ok x) state page old new is told empty =
     (response-rules page new (told ∙ ap (λ (front : List ℕ). front ++ (rules_text ((page_view page).sheets) ++ ok_line)) empty))
 OnOk-rules (Err x) state page old new is told empty = tt
 
--- a dump by whether a sheet has a style rule, as the code asks it
-pub OnOk-refused_dump : {T E : Type 0} (r : Result T E) (page : KeptPage) (b : Bool) (old new : List ℕ) → b ≡ list_any has_style_rule ((page_view page).sheets) → b ≡ true
+-- the same, as the code asks it
+pub OnOk-refused_dump : {T E : Type 0} (r : Result T E) (page : KeptPage) (b : Bool) (old new : List ℕ) → b ≡ is_styled_page (page_view page) → b ≡ true
     → OnOk r (new ≡ old ++ error_line NotBuilt) → old ≡ [] → OnOk r (IsDumpReply (page_view page) new)
 OnOk-refused_dump (Ok x) page b old new is holds line empty =
     subst (λ (b : Bool). IsDumpBy b (page_view page) new) (sym holds ∙ is) (line ∙ ap (λ (front : List ℕ). front ++ error_line NotBuilt) empty)
 OnOk-refused_dump (Err x) page b old new is holds line empty = tt
 
-pub OnOk-built_dump : {T E : Type 0} (r : Result T E) (page : KeptPage) (b : Bool) (new : List ℕ) → b ≡ list_any has_style_rule ((page_view page).sheets) → b ≡ false
+pub OnOk-built_dump : {T E : Type 0} (r : Result T E) (page : KeptPage) (b : Bool) (new : List ℕ) → b ≡ is_styled_page (page_view page) → b ≡ false
     → OnOk r ((setting : Setting) → IsDumpOf setting (page_view page) new) → OnOk r (IsDumpReply (page_view page) new)
 OnOk-built_dump (Ok x) page b new is fails dump = subst (λ (b : Bool). IsDumpBy b (page_view page) new) (sym fails ∙ is) dump
 OnOk-built_dump (Err x) page b new is fails dump = tt

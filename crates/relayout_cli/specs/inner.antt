@@ -2,6 +2,7 @@
 pub mod Flat
 pub mod Frames
 pub mod Walk
+pub mod Elements
 pub mod Dumps
 pub mod RuleLines
 pub mod Edits

@@ -4,6 +4,7 @@
 mod apply;
 mod boxes;
 mod dump;
+mod elements;
 mod examples;
 mod page;
 mod plain;
@@ -14,6 +15,7 @@ mod running;
 mod serving;
 mod sheets;
 mod status;
+mod styled;
 
 pub use examples::{examples_of_causes, examples_of_logs, examples_of_what_is_written};
 pub use running::run;

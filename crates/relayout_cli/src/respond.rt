@@ -14,7 +14,7 @@ use crate::page::Page;
 use crate::plain::is_built;
 use crate::replies::{MAX_EDIT_REPLY, push_accepted, push_error};
 use crate::rules::push_rules;
-use crate::sheets::any_has_rules;
+use crate::styled::is_styled_page;
 use page_model::Cause;
 use port_core::NoMemory;
 use relayout_requests::{Asked, Edit, Request};
@@ -113,19 +113,20 @@ fn respond_query(
 {
     match state {
         Some(page) => match query {
-            Query::Dump => respond_dump(page, reply),
+            Query::Dump => respond_dump(alloc, page, reply),
             Query::Rules => push_rules(alloc, page, reply),
         },
         None => push_error(reply, Cause::NotLoaded),
     }
 }
 
-/// Dumps a page, or refuses to while a sheet has a style rule.
-fn respond_dump(page: &Page, reply: &mut String) -> Result<(), NoMemory>
+/// Dumps a page, or refuses to where a box may be another than that of a plain block.
+fn respond_dump(alloc: Global, page: &Page, reply: &mut String) -> Result<(), NoMemory>
     requires empty { string_bytes reply.old ≡ [] }
     ensures { OnOk result (IsDumpReply (page_view page.now) (string_bytes reply.new)) }
 {
-    if any_has_rules(page.sheets.as_slice()) {
+    let styled = is_styled_page(alloc, page)?;
+    if styled {
         return push_error(reply, Cause::NotBuilt);
     }
     push_dump(page, reply)
