@@ -1,5 +1,5 @@
 -- Which requests are refused, and the state that a line leaves.
-use Rattle.std.specs.Prelude.{ℕ, ◌||◌, List, [], ◌∷◌, ◌++◌, Bool, true, false, length, take, drop, suc, not, nat_lt, max, Option, Some, None, is_some, option_map, unwrap_or, codes}
+use Rattle.std.specs.Prelude.{ℕ, ◌||◌, List, [], ◌∷◌, ◌++◌, Bool, true, false, length, take, drop, suc, not, nat_lt, max, Option, Some, None, is_none, is_some, option_map, unwrap_or, codes}
 use Rattle.std.specs.List.{list_any}
 use Rattle.page_model.specs.Trees.{Text, Tree, has_node, size}
 use Rattle.page_model.specs.Document.{Document, Node, document, name_at, value_at}
@@ -8,13 +8,14 @@ use Rattle.page_model.specs.Edits.{load_causes, insert_causes, remove_causes, do
 use Rattle.page_model.specs.Pages.{Page, State}
 use Rattle.page_model.specs.declared.limits.TheConstants.{MAX_SIDE}
 use Rattle.page_model.specs.declared.cause.Cause.{Cause}
-use Rattle.page_model.specs.declared.cause.Cause.TheVariants.{NotLoaded, ViewportRange, SheetLimit, NoSheet, NotBuilt}
+use Rattle.page_model.specs.declared.cause.Cause.TheVariants.{NotLoaded, ViewportRange, SheetLimit, NoSheet, BadSelector, NotBuilt}
 use Rattle.rules_model.specs.Sheets.{limit_of_sheet, style_rules_of}
 use Rattle.rules_model.specs.declared.limits.TheConstants.{MAX_SHEETS}
 use Rattle.selectors_model.specs.Elements.{is_same_name}
 use Rattle.selectors_model.specs.Matching.{elements_of}
+use Rattle.selectors_model.specs.SelectorTexts.{selector_list_of_text}
 use Rattle.request_model.specs.declared.query.Query.{Query}
-use Rattle.request_model.specs.declared.query.Query.TheVariants.{Dump, Rules}
+use Rattle.request_model.specs.declared.query.Query.TheVariants.{Dump, Match, Rules}
 use Rattle.request_model.specs.declared.accepted.Accepted.{Accepted}
 use Rattle.request_model.specs.Requests.{Edit, load, insert, remove, sheet, Request, edit, query, Asked, nothing, broken, request}
 
@@ -82,6 +83,8 @@ is_styled_page page =
 abbrev pub query_causes : State → Query → Causes
 query_causes s Dump = needs_page s (λ page. (is_styled_page page, NotBuilt) ∷ [])
 query_causes s Rules = needs_page s (λ _. [])
+query_causes s (Match selector) =
+    needs_page s (λ _. (is_none (selector_list_of_text selector), BadSelector) ∷ [])
 
 abbrev pub request_causes : State → Request → Causes
 request_causes s (edit e) = edit_causes s e

@@ -112,11 +112,12 @@ pub fn examples_of_requests()
         (member (codes "width") (number (unsigned 1)) no_members)))))))
         ≡ broken BadRequest }
     ensures names_not_built { list_all is_name_not_built
-        (codes "match" ∷ codes "style" ∷ codes "resize" ∷ codes "move"
+        (codes "style" ∷ codes "resize" ∷ codes "move"
         ∷ codes "set-attr" ∷ codes "drop-attr" ∷ codes "set-text" ∷ codes "counts" ∷ [])
         ≡ true }
     ensures names_built { list_any is_name_not_built
-        (codes "load" ∷ codes "insert" ∷ codes "remove" ∷ codes "sheet" ∷ codes "dump" ∷ codes "rules" ∷ [])
+        (codes "load" ∷ codes "insert" ∷ codes "remove" ∷ codes "sheet" ∷ codes "dump" ∷ codes "rules"
+        ∷ codes "match" ∷ [])
         ≡ false }
     ensures insert_with_another { asked_of (Some (object (member (codes "a") null
         (member (codes "do") (string (codes "insert"))
