@@ -6,15 +6,20 @@ use Rattle.page_model.specs.Pages.{State}
 use Rattle.page_model.specs.Trees.{Tree, elem, characters, is_elem}
 use Rattle.page_model.specs.Refusals.{Causes, first_of, cause_of, IsFirstCause, IsRefusedBy}
 use Rattle.page_model.specs.declared.cause.Cause.{Cause}
-use Rattle.page_model.specs.declared.cause.Cause.TheVariants.{NotBuilt, NotLoaded}
+use Rattle.page_model.specs.declared.cause.Cause.TheVariants.{BadSelector, NotBuilt, NotLoaded}
 use Rattle.page_model.specs.declared.refusal.Refusal.{Refusal}
 use Rattle.request_model.specs.declared.query.Query.{Query}
-use Rattle.request_model.specs.declared.query.Query.TheVariants.{Dump, Rules}
+use Rattle.request_model.specs.declared.query.Query.TheVariants.{Dump, Match, Rules}
 use Rattle.request_model.specs.declared.accepted.Accepted.{Accepted}
 use Rattle.request_model.specs.Requests.{Edit, load, insert, remove, sheet, Request, edit, query, Asked, nothing, broken, request}
 use Rattle.request_model.specs.States.{Answer, silent, refused, accepted, answer_to, answer_by, refusal_of, form_causes, request_causes, edit_causes, state_after_edit, accepted_by, brings_tree, most_logs, logs_of_refused, has_text, is_styled_page}
 use Rattle.layout_model.specs.Setting.{Setting}
 use Rattle.reply_model.specs.Spelling.{error_line, ok_line}
+use Rattle.page_model.specs.Pages.{Page}
+use Rattle.page_model.specs.Trees.{Text}
+use Rattle.selectors_model.specs.SelectorTexts.{selector_list_of_text}
+use Rattle.selectors_model.specs.Selectors.{SelectorList}
+use Rattle.reply_model.specs.MatchText.{match_lines, match_text_by}
 use Rattle.reply_model.specs.RulesText.{rules_text}
 use Rattle.reply_model.specs.Replies.{Course, IsTurn, IsAnswered, IsQueryReply, AreLogs, edit_text}
 use Rattle.dom_arena.specs.Faults.{AnswersBy, refusal_of_fault, cause_in}
@@ -23,6 +28,7 @@ use Rattle.relayout_cli.specs.Pages.{page_view, state_view}
 use Rattle.relayout_cli.specs.declared.page.Page.{Page as KeptPage}
 use Rattle.relayout_cli.specs.inner.Turns.{IsResponse, empty_logs}
 use Rattle.relayout_cli.specs.inner.Dumps.{IsDumpOf, IsDumpBy, IsDumpReply}
+use Rattle.relayout_cli.specs.inner.MatchReplies.{IsMatchBy, IsMatchReply}
 use Rattle.relayout_cli.specs.inner.Edits.{HasRoot}
 
 -- ---- causes
@@ -105,6 +111,7 @@ refused-most (broken c) = refl
 refused-most (request (edit e)) = refl
 refused-most (request (query Dump)) = refl
 refused-most (request (query Rules)) = refl
+refused-most (request (query (Match selector))) = refl
 
 pub response-silent : (page : Option KeptPage) (reply : List ℕ) → reply ≡ [] → IsResponse nothing [] reply page page
 response-silent page reply e = λ setting from at. (from, at-turn setting from from (state_view page) nothing [] reply silent at refl (refl, e, refl), at)
@@ -167,6 +174,21 @@ response-rules page reply told = λ setting from at. (
   at,
 )
 
+-- a match, by the selector list that its text is, if it is one
+response-match : (page : KeptPage) (selector : Text) (reply : List ℕ) (list : Option SelectorList) → selector_list_of_text selector ≡ list → IsMatchBy list (page_view page) reply
+    → IsResponse (request (query (Match selector))) (empty_logs (most_logs (request (query (Match selector))))) reply (Some page) (Some page)
+response-match page selector reply None is h = response-cause (Some page) (query (Match selector)) BadSelector reply refl (one-holds _ BadSelector (ap is_none is)) h
+response-match page selector reply (Some list) is h = λ setting from at. (
+  from,
+  at-turn setting from from (Some (page_view page)) (request (query (Match selector))) [] reply (accepted (query (Match selector))) at
+      (ap (answer_by (query (Match selector))) (refusal-built (Some (page_view page)) (query (Match selector)) refl ∙ one-fails _ BadSelector (ap is_none is))) (
+        subst (λ (s : State). IsQueryReply s setting from (Match selector) [] reply) (sym at)
+            (refl, h ∙ ap (λ (l : Option SelectorList). match_text_by l (page_view page).document.root ++ ok_line) (sym is)),
+        refl,
+      ),
+  at,
+)
+
 -- ---- replies that were appended to nothing
 
 pub OnOk-edit : {T E : Type 0} (r : Result T E) (page page' : Option KeptPage) (e : Edit) (b : Bool) (a : Accepted) (old new : List ℕ)
@@ -218,10 +240,33 @@ pub OnOk-built_dump : {T E : Type 0} (r : Result T E) (page : KeptPage) (b : Boo
 OnOk-built_dump (Ok x) page b new is fails dump = subst (λ (b : Bool). IsDumpBy b (page_view page) new) (sym fails ∙ is) dump
 OnOk-built_dump (Err x) page b new is fails dump = tt
 
+pub OnOk-matched : {T E : Type 0} (r : Result T E) (state : Option KeptPage) (page : KeptPage) (selector : Text) (new : List ℕ) → state ≡ Some page
+    → OnOk r (IsMatchReply selector (page_view page) new)
+    → OnOk r (IsResponse (request (query (Match selector))) (empty_logs (most_logs (request (query (Match selector))))) new state state)
+OnOk-matched (Ok x) state page selector new is h =
+    subst (λ (s : Option KeptPage). IsResponse (request (query (Match selector))) [] new s s) (sym is) (response-match page selector new _ refl h)
+OnOk-matched (Err x) state page selector new is h = tt
+
+-- a match, by the list that the code reads
+pub OnOk-some_list : {T E : Type 0} (r : Result T E) (page : Page) (selector : Text) (list : SelectorList) (old new : List ℕ)
+    → OnOk r (new ≡ old ++ (match_lines list page.document.root ++ ok_line)) → old ≡ [] → Some list ≡ selector_list_of_text selector
+    → OnOk r (IsMatchReply selector page new)
+OnOk-some_list (Ok x) page selector list old new line empty is =
+    subst (λ (l : Option SelectorList). IsMatchBy l page new) is (line ∙ ap (λ (front : List ℕ). front ++ (match_lines list page.document.root ++ ok_line)) empty)
+OnOk-some_list (Err x) page selector list old new line empty is = tt
+
+pub OnOk-no_list : {T E : Type 0} (r : Result T E) (page : Page) (selector : Text) (old new : List ℕ)
+    → OnOk r (new ≡ old ++ error_line BadSelector) → old ≡ [] → None ≡ selector_list_of_text selector
+    → OnOk r (IsMatchReply selector page new)
+OnOk-no_list (Ok x) page selector old new line empty is =
+    subst (λ (l : Option SelectorList). IsMatchBy l page new) is (line ∙ ap (λ (front : List ℕ). front ++ error_line BadSelector) empty)
+OnOk-no_list (Err x) page selector old new line empty is = tt
+
 -- a query needs a page
 pub query-not_loaded : (state : Option KeptPage) (q : Query) → state ≡ None → first_of (request_causes (state_view state) (query q)) ≡ Some NotLoaded
 query-not_loaded state Dump is = rw is refl
 query-not_loaded state Rules is = rw is refl
+query-not_loaded state (Match selector) is = rw is refl
 
 -- a refusal with a cause is by the first that holds
 pub refused-cause : (causes : Causes) (r : Refusal) (c : Cause) → IsRefusedBy causes r → cause_of r ≡ Some c → first_of causes ≡ Some c

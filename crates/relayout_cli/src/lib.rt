@@ -6,6 +6,7 @@ mod boxes;
 mod dump;
 mod elements;
 mod examples;
+mod matches;
 mod page;
 mod plain;
 mod replies;
