@@ -1,6 +1,7 @@
 //! Whole scripts over a source and a sink in memory, with the replies that they must have.
 mod endings;
 mod limits;
+mod matches;
 mod names;
 mod order;
 mod replies;
