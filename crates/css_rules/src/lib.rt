@@ -13,10 +13,11 @@ mod sheet;
 mod sheets;
 mod text_components;
 
-pub use css_tokens::{Component, Components};
+pub use css_tokens::{Component, Components, TokenFault};
 pub use declaration::{Declaration, Declarations};
 pub use declaration_lists::parse_style_attr;
 pub use fault::SheetFault;
 pub use rules_model::ConditionalRule;
 pub use sheet::{Condition, Sheet, StyleRule};
 pub use sheets::parse_sheet;
+pub use text_components::components_of;

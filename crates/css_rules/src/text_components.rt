@@ -9,8 +9,12 @@ ghost use Rattle.std.specs.Str.{chars};
 use css_tokens::{Components, TokenFault, components, tokenize};
 use std::alloc::Global;
 
-/// The component values of `text`.
-pub(crate) fn components_of(alloc: Global, text: &str) -> Result<Components, TokenFault>
+/// Returns the component values of `text` (CSS Syntax 3, section 5.3.10).
+///
+/// # Errors
+///
+/// `TooDeep` where simple blocks and functions nest deeper than `MAX_NESTING`; or `NoMemory`.
+pub fn components_of(alloc: Global, text: &str) -> Result<Components, TokenFault>
     ensures components { IfOk result
         (λ cs. components_view cs ≡ sheets.components_of (chars text.now)) }
     ensures low { IfOk result (λ cs. depths (components_view cs) ≤ MAX_NESTING) }

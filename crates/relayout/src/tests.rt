@@ -1,6 +1,8 @@
 //! Whole scripts over a source and a sink in memory, with the replies that they must have.
 mod endings;
 mod limits;
+mod matches;
+mod names;
 mod order;
 mod replies;
 mod sheets;

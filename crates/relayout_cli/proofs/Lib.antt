@@ -1,4 +1,6 @@
 pub mod WalkLemmas
+pub mod ElementsOf
+pub mod IsStyled
 pub mod ReplyLemmas
 pub mod DumpLemmas
 pub mod CutLemmas

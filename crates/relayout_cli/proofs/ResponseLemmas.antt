@@ -1,21 +1,25 @@
 -- How what a line asks for is answered.
-use Rattle.std.proofs.Common.{◌≡◌, ◌∙◌, sym, ap, subst, refl, ℕ, zero, suc, List, [], ◌∷◌, ◌++◌, Bool, true, false, not, inl, inr, Option, Some, None, Result, Ok, Err, OnOk, is_none}
+use Rattle.std.proofs.Common.{◌≡◌, ◌∙◌, sym, ap, subst, refl, ℕ, zero, suc, List, [], ◌∷◌, ◌++◌, Bool, true, false, inl, inr, Option, Some, None, Result, Ok, Err, OnOk, is_none}
 use Rattle.std.proofs.lemmas.Bool.{false≢true}
-use Rattle.std.specs.List.{list_any}
 use Rattle.stream_model.specs.Ledger.{Log}
 use Rattle.page_model.specs.Pages.{State}
 use Rattle.page_model.specs.Trees.{Tree, elem, characters, is_elem}
 use Rattle.page_model.specs.Refusals.{Causes, first_of, cause_of, IsFirstCause, IsRefusedBy}
 use Rattle.page_model.specs.declared.cause.Cause.{Cause}
-use Rattle.page_model.specs.declared.cause.Cause.TheVariants.{NotBuilt, NotLoaded}
+use Rattle.page_model.specs.declared.cause.Cause.TheVariants.{BadSelector, NotBuilt, NotLoaded}
 use Rattle.page_model.specs.declared.refusal.Refusal.{Refusal}
 use Rattle.request_model.specs.declared.query.Query.{Query}
-use Rattle.request_model.specs.declared.query.Query.TheVariants.{Dump, Rules}
+use Rattle.request_model.specs.declared.query.Query.TheVariants.{Dump, Match, Rules}
 use Rattle.request_model.specs.declared.accepted.Accepted.{Accepted}
 use Rattle.request_model.specs.Requests.{Edit, load, insert, remove, sheet, Request, edit, query, Asked, nothing, broken, request}
-use Rattle.request_model.specs.States.{Answer, silent, refused, accepted, answer_to, answer_by, refusal_of, form_causes, request_causes, edit_causes, state_after_edit, accepted_by, brings_tree, most_logs, logs_of_refused, is_plain, has_style_rule}
+use Rattle.request_model.specs.States.{Answer, silent, refused, accepted, answer_to, answer_by, refusal_of, form_causes, request_causes, edit_causes, state_after_edit, accepted_by, brings_tree, most_logs, logs_of_refused, has_text, is_styled_page}
 use Rattle.layout_model.specs.Setting.{Setting}
 use Rattle.reply_model.specs.Spelling.{error_line, ok_line}
+use Rattle.page_model.specs.Pages.{Page}
+use Rattle.page_model.specs.Trees.{Text}
+use Rattle.selectors_model.specs.SelectorTexts.{selector_list_of_text}
+use Rattle.selectors_model.specs.Selectors.{SelectorList}
+use Rattle.reply_model.specs.MatchText.{match_lines, match_text_by}
 use Rattle.reply_model.specs.RulesText.{rules_text}
 use Rattle.reply_model.specs.Replies.{Course, IsTurn, IsAnswered, IsQueryReply, AreLogs, edit_text}
 use Rattle.dom_arena.specs.Faults.{AnswersBy, refusal_of_fault, cause_in}
@@ -24,6 +28,7 @@ use Rattle.relayout_cli.specs.Pages.{page_view, state_view}
 use Rattle.relayout_cli.specs.declared.page.Page.{Page as KeptPage}
 use Rattle.relayout_cli.specs.inner.Turns.{IsResponse, empty_logs}
 use Rattle.relayout_cli.specs.inner.Dumps.{IsDumpOf, IsDumpBy, IsDumpReply}
+use Rattle.relayout_cli.specs.inner.MatchReplies.{IsMatchBy, IsMatchReply}
 use Rattle.relayout_cli.specs.inner.Edits.{HasRoot}
 
 -- ---- causes
@@ -66,12 +71,12 @@ pub forms-built : (q : Request) → is_none (first_of (form_causes q)) ≡ true 
 forms-built q h = none-is_none (first_of (form_causes q)) h
 
 -- the document of a load whose form is built is an element
-plain-root : (doc : Tree) → first_of ((not (is_plain doc), NotBuilt) ∷ []) ≡ None → is_elem doc ≡ true
-plain-root (elem name attributes kids) h = refl
-plain-root (characters text) h = absurd (cc)
+textless-root : (doc : Tree) → first_of ((has_text doc, NotBuilt) ∷ []) ≡ None → is_elem doc ≡ true
+textless-root (elem name attributes kids) h = refl
+textless-root (characters text) h = absurd (cc)
 
 pub built-root : (e : Edit) → first_of (form_causes (edit e)) ≡ None → HasRoot e
-built-root (load width height doc sheets) h = plain-root doc h
+built-root (load width height doc sheets) h = textless-root doc h
 built-root (insert parent index new) h = tt
 built-root (remove id) h = tt
 built-root (sheet at css) h = tt
@@ -106,6 +111,7 @@ refused-most (broken c) = refl
 refused-most (request (edit e)) = refl
 refused-most (request (query Dump)) = refl
 refused-most (request (query Rules)) = refl
+refused-most (request (query (Match selector))) = refl
 
 pub response-silent : (page : Option KeptPage) (reply : List ℕ) → reply ≡ [] → IsResponse nothing [] reply page page
 response-silent page reply e = λ setting from at. (from, at-turn setting from from (state_view page) nothing [] reply silent at refl (refl, e, refl), at)
@@ -146,8 +152,8 @@ one-holds b c h = rw h refl
 one-fails : (b : Bool) (c : Cause) → b ≡ false → first_of ((b, c) ∷ []) ≡ None
 one-fails b c h = rw h refl
 
--- a dump, by whether a sheet has a style rule
-response-dump : (page : KeptPage) (reply : List ℕ) (b : Bool) → list_any has_style_rule ((page_view page).sheets) ≡ b → IsDumpBy b (page_view page) reply
+-- a dump, by whether a box may be another than that of a plain block
+response-dump : (page : KeptPage) (reply : List ℕ) (b : Bool) → is_styled_page (page_view page) ≡ b → IsDumpBy b (page_view page) reply
     → IsResponse (request (query Dump)) (empty_logs (most_logs (request (query Dump)))) reply (Some page) (Some page)
 response-dump page reply true is h = response-cause (Some page) (query Dump) NotBuilt reply refl (one-holds _ NotBuilt is) h
 response-dump page reply false is h = λ setting from at. (
@@ -165,6 +171,21 @@ response-rules page reply told = λ setting from at. (
   at-turn setting from from (Some (page_view page)) (request (query Rules)) [] reply (accepted (query Rules)) at
       (ap (answer_by (query Rules)) (refusal-built (Some (page_view page)) (query Rules) refl))
       (subst (λ (s : State). IsQueryReply s setting from Rules [] reply) (sym at) (refl, told), refl),
+  at,
+)
+
+-- a match, by the selector list that its text is, if it is one
+response-match : (page : KeptPage) (selector : Text) (reply : List ℕ) (list : Option SelectorList) → selector_list_of_text selector ≡ list → IsMatchBy list (page_view page) reply
+    → IsResponse (request (query (Match selector))) (empty_logs (most_logs (request (query (Match selector))))) reply (Some page) (Some page)
+response-match page selector reply None is h = response-cause (Some page) (query (Match selector)) BadSelector reply refl (one-holds _ BadSelector (ap is_none is)) h
+response-match page selector reply (Some list) is h = λ setting from at. (
+  from,
+  at-turn setting from from (Some (page_view page)) (request (query (Match selector))) [] reply (accepted (query (Match selector))) at
+      (ap (answer_by (query (Match selector))) (refusal-built (Some (page_view page)) (query (Match selector)) refl ∙ one-fails _ BadSelector (ap is_none is))) (
+        subst (λ (s : State). IsQueryReply s setting from (Match selector) [] reply) (sym at)
+            (refl, h ∙ ap (λ (l : Option SelectorList). match_text_by l (page_view page).document.root ++ ok_line) (sym is)),
+        refl,
+      ),
   at,
 )
 
@@ -207,22 +228,45 @@ OnOk-rules (Ok x) state page old new is told empty =
     (response-rules page new (told ∙ ap (λ (front : List ℕ). front ++ (rules_text ((page_view page).sheets) ++ ok_line)) empty))
 OnOk-rules (Err x) state page old new is told empty = tt
 
--- a dump by whether a sheet has a style rule, as the code asks it
-pub OnOk-refused_dump : {T E : Type 0} (r : Result T E) (page : KeptPage) (b : Bool) (old new : List ℕ) → b ≡ list_any has_style_rule ((page_view page).sheets) → b ≡ true
+-- the same, as the code asks it
+pub OnOk-refused_dump : {T E : Type 0} (r : Result T E) (page : KeptPage) (b : Bool) (old new : List ℕ) → b ≡ is_styled_page (page_view page) → b ≡ true
     → OnOk r (new ≡ old ++ error_line NotBuilt) → old ≡ [] → OnOk r (IsDumpReply (page_view page) new)
 OnOk-refused_dump (Ok x) page b old new is holds line empty =
     subst (λ (b : Bool). IsDumpBy b (page_view page) new) (sym holds ∙ is) (line ∙ ap (λ (front : List ℕ). front ++ error_line NotBuilt) empty)
 OnOk-refused_dump (Err x) page b old new is holds line empty = tt
 
-pub OnOk-built_dump : {T E : Type 0} (r : Result T E) (page : KeptPage) (b : Bool) (new : List ℕ) → b ≡ list_any has_style_rule ((page_view page).sheets) → b ≡ false
+pub OnOk-built_dump : {T E : Type 0} (r : Result T E) (page : KeptPage) (b : Bool) (new : List ℕ) → b ≡ is_styled_page (page_view page) → b ≡ false
     → OnOk r ((setting : Setting) → IsDumpOf setting (page_view page) new) → OnOk r (IsDumpReply (page_view page) new)
 OnOk-built_dump (Ok x) page b new is fails dump = subst (λ (b : Bool). IsDumpBy b (page_view page) new) (sym fails ∙ is) dump
 OnOk-built_dump (Err x) page b new is fails dump = tt
+
+pub OnOk-matched : {T E : Type 0} (r : Result T E) (state : Option KeptPage) (page : KeptPage) (selector : Text) (new : List ℕ) → state ≡ Some page
+    → OnOk r (IsMatchReply selector (page_view page) new)
+    → OnOk r (IsResponse (request (query (Match selector))) (empty_logs (most_logs (request (query (Match selector))))) new state state)
+OnOk-matched (Ok x) state page selector new is h =
+    subst (λ (s : Option KeptPage). IsResponse (request (query (Match selector))) [] new s s) (sym is) (response-match page selector new _ refl h)
+OnOk-matched (Err x) state page selector new is h = tt
+
+-- a match, by the list that the code reads
+pub OnOk-some_list : {T E : Type 0} (r : Result T E) (page : Page) (selector : Text) (list : SelectorList) (old new : List ℕ)
+    → OnOk r (new ≡ old ++ (match_lines list page.document.root ++ ok_line)) → old ≡ [] → Some list ≡ selector_list_of_text selector
+    → OnOk r (IsMatchReply selector page new)
+OnOk-some_list (Ok x) page selector list old new line empty is =
+    subst (λ (l : Option SelectorList). IsMatchBy l page new) is (line ∙ ap (λ (front : List ℕ). front ++ (match_lines list page.document.root ++ ok_line)) empty)
+OnOk-some_list (Err x) page selector list old new line empty is = tt
+
+pub OnOk-no_list : {T E : Type 0} (r : Result T E) (page : Page) (selector : Text) (old new : List ℕ)
+    → OnOk r (new ≡ old ++ error_line BadSelector) → old ≡ [] → None ≡ selector_list_of_text selector
+    → OnOk r (IsMatchReply selector page new)
+OnOk-no_list (Ok x) page selector old new line empty is =
+    subst (λ (l : Option SelectorList). IsMatchBy l page new) is (line ∙ ap (λ (front : List ℕ). front ++ error_line BadSelector) empty)
+OnOk-no_list (Err x) page selector old new line empty is = tt
 
 -- a query needs a page
 pub query-not_loaded : (state : Option KeptPage) (q : Query) → state ≡ None → first_of (request_causes (state_view state) (query q)) ≡ Some NotLoaded
 query-not_loaded state Dump is = rw is refl
 query-not_loaded state Rules is = rw is refl
+query-not_loaded state (Match selector) is = rw is refl
 
 -- a refusal with a cause is by the first that holds
 pub refused-cause : (causes : Causes) (r : Refusal) (c : Cause) → IsRefusedBy causes r → cause_of r ≡ Some c → first_of causes ≡ Some c

@@ -26,7 +26,7 @@ reach-at levels i root (Some (text id cs)) e found h = tt
 pub AllReach-kids : (levels i : ℕ) (root : Node) → Reaches levels i root → ((n : Node) → find i root ≡ Some n → AreFound root (children_of n)) → AllReach (levels - 1) (child_ids i root) root
 AllReach-kids levels i root r found = reach-at levels i root (find i root) refl found r.low
 
-nodes-found : (ns : Nodes) (root : Node) → AreFound root ns → nodes_at (ids_of ns) root ≡ ns
+pub nodes-found : (ns : Nodes) (root : Node) → AreFound root ns → nodes_at (ids_of ns) root ≡ ns
 nodes-found no_nodes root f = refl
 nodes-found (node n ns) root f = rw f.0 (ap (node n) (nodes-found ns root f.1))
 

@@ -2,7 +2,9 @@
 pub mod Flat
 pub mod Frames
 pub mod Walk
+pub mod Elements
 pub mod Dumps
+pub mod MatchReplies
 pub mod RuleLines
 pub mod Edits
 pub mod Coming

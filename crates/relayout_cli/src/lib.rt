@@ -4,7 +4,9 @@
 mod apply;
 mod boxes;
 mod dump;
+mod elements;
 mod examples;
+mod matches;
 mod page;
 mod plain;
 mod replies;
@@ -14,6 +16,7 @@ mod running;
 mod serving;
 mod sheets;
 mod status;
+mod styled;
 
 pub use examples::{examples_of_causes, examples_of_logs, examples_of_what_is_written};
 pub use running::run;

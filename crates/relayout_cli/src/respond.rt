@@ -6,17 +6,19 @@ ghost use Rattle.request_model.specs.States.{form_causes, most_logs, brings_tree
 ghost use Rattle.relayout_requests.specs.Views.{asked_view, edit_view, request_view};
 ghost use Rattle.relayout_cli.specs.Pages.{page_view};
 ghost use Rattle.relayout_cli.specs.inner.Dumps.{IsDumpReply};
+ghost use Rattle.relayout_cli.specs.inner.MatchReplies.{IsMatchReply};
 ghost use Rattle.relayout_cli.specs.inner.Turns.{IsResponse, empty_logs};
 
 use crate::apply::apply;
 use crate::dump::push_dump;
+use crate::matches::{push_matches, read_selector};
 use crate::page::Page;
 use crate::plain::is_built;
 use crate::replies::{MAX_EDIT_REPLY, push_accepted, push_error};
 use crate::rules::push_rules;
-use crate::sheets::any_has_rules;
+use crate::styled::is_styled_page;
 use page_model::Cause;
-use port_core::NoMemory;
+use port_core::{NoMemory, Text};
 use relayout_requests::{Asked, Edit, Request};
 use request_model::Query;
 use std::alloc::Global;
@@ -113,20 +115,38 @@ fn respond_query(
 {
     match state {
         Some(page) => match query {
-            Query::Dump => respond_dump(page, reply),
+            Query::Dump => respond_dump(alloc, page, reply),
             Query::Rules => push_rules(alloc, page, reply),
+            Query::Match(selector) => respond_match(alloc, page, &selector, reply),
         },
         None => push_error(reply, Cause::NotLoaded),
     }
 }
 
-/// Dumps a page, or refuses to while a sheet has a style rule.
-fn respond_dump(page: &Page, reply: &mut String) -> Result<(), NoMemory>
+/// Dumps a page, or refuses to where a box may be another than that of a plain block.
+fn respond_dump(alloc: Global, page: &Page, reply: &mut String) -> Result<(), NoMemory>
     requires empty { string_bytes reply.old ≡ [] }
     ensures { OnOk result (IsDumpReply (page_view page.now) (string_bytes reply.new)) }
 {
-    if any_has_rules(page.sheets.as_slice()) {
+    let styled = is_styled_page(alloc, page)?;
+    if styled {
         return push_error(reply, Cause::NotBuilt);
     }
     push_dump(page, reply)
+}
+
+/// Answers a match, or refuses it where the text is no selector list.
+fn respond_match(
+    alloc: Global,
+    page: &Page,
+    selector: &Text,
+    reply: &mut String,
+) -> Result<(), NoMemory>
+    requires empty { string_bytes reply.old ≡ [] }
+    ensures { OnOk result (IsMatchReply selector.now (page_view page.now) (string_bytes reply.new)) }
+{
+    match read_selector(alloc, selector)? {
+        Some(list) => push_matches(alloc, &page.document, &list, reply),
+        None => push_error(reply, Cause::BadSelector),
+    }
 }

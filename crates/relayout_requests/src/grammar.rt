@@ -1,7 +1,7 @@
 //! The grammar of requests.
 ghost use Rattle.std.specs.Prelude.{◌≡◌, Some, IfOk};
 ghost use Rattle.serde_json.specs.View.{view};
-ghost use Rattle.request_model.specs.Requests.{asked_of, is_name_not_built, request_named, load_of, insert_of, remove_of, sheet_of, dump_of, rules_of};
+ghost use Rattle.request_model.specs.Requests.{asked_of, is_name_not_built, request_named, load_of, insert_of, remove_of, sheet_of, dump_of, rules_of, match_of};
 ghost use Rattle.relayout_requests.specs.Views.{asked_view, request_view, edit_view};
 ghost use Rattle.relayout_requests.specs.Reads.{Reads};
 
@@ -11,7 +11,7 @@ use crate::members::{
 use crate::request::{Asked, Edit, Request};
 use crate::unread::Unread;
 use page_model::Cause;
-use port_core::NoMemory;
+use port_core::{NoMemory, Text};
 use request_model::Query;
 use serde_json::Value;
 use std::alloc::Global;
@@ -41,7 +41,7 @@ fn is_name_not_built(name: &str) -> bool
 {
     matches!(
         name,
-        "match" | "style" | "resize" | "move" | "set-attr" | "drop-attr" | "set-text" | "counts"
+        "style" | "resize" | "move" | "set-attr" | "drop-attr" | "set-text" | "counts"
     )
 }
 
@@ -57,6 +57,7 @@ fn read_named(alloc: Global, name: &str, value: &Value) -> Result<Request, Unrea
         "sheet" => Ok(Request::Edit(read_sheet(alloc, value)?)),
         "dump" => Ok(Request::Query(read_dump(value)?)),
         "rules" => Ok(Request::Query(read_rules(value)?)),
+        "match" => Ok(Request::Query(read_match(alloc, value)?)),
         _ => Err(Unread::BadRequest),
     }
 }
@@ -139,4 +140,17 @@ fn read_rules(value: &Value) -> Result<Query, Unread>
         return Err(Unread::BadRequest);
     }
     Ok(Query::Rules)
+}
+
+#[tactic(auto, unfolding(request_model::specs::Requests::match_of))]
+fn read_match(alloc: Global, value: &Value) -> Result<Query, Unread>
+    ensures { Reads (λ q. q) result (match_of (view value.now)) }
+{
+    let Some(selector) = string_at(value, "selector") else {
+        return Err(Unread::BadRequest);
+    };
+    if count_members(value) != 2 {
+        return Err(Unread::BadRequest);
+    }
+    Ok(Query::Match(Text::new(alloc, selector)?))
 }

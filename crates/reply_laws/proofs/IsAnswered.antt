@@ -11,12 +11,13 @@ use Rattle.reply_laws.proofs.AreLogs.{length-logs, length-logs_of, some-logs, so
 use Rattle.reply_laws.specs.States.{StateHasGivenIds}
 use Rattle.reply_model.specs.DumpText.{dump_text}
 use Rattle.reply_model.specs.Replies.{Course, IsAnswered, IsQueryReply, IsReplyOn, IsTurn, dump_causes, edit_text, newest, text_unless}
+use Rattle.reply_model.specs.MatchText.{match_text}
 use Rattle.reply_model.specs.RulesText.{rules_text}
 use Rattle.reply_model.specs.Spelling.{error_line, ok_line}
 use Rattle.request_model.specs.Requests.{Asked, Edit, Request, broken, edit, nothing, query, request}
 use Rattle.request_model.specs.States.{Answer, accepted, accepted_by, answer_by, answer_to, brings_tree, logs_of, logs_of_refused, refusal_of, refused, silent, state_after_edit}
 use Rattle.request_model.specs.declared.query.Query.{Query}
-use Rattle.request_model.specs.declared.query.Query.TheVariants.{Dump, Rules}
+use Rattle.request_model.specs.declared.query.Query.TheVariants.{Dump, Match, Rules}
 use Rattle.stream_model.specs.Ledger.{Log}
 
 -- ---- the number of logs
@@ -26,6 +27,7 @@ length-query : (s : State) (setting : Setting) (from : Course) (q : Query) (own 
 length-query None setting from q own reply h = absurd h
 length-query (Some page) setting from Dump own reply h = length-logs_of setting from (query Dump) (Some h.0) own h.2
 length-query (Some page) setting from Rules own reply h = length-logs_of setting from (query Rules) None own h.0
+length-query (Some page) setting from (Match selector) own reply h = length-logs_of setting from (query (Match selector)) None own h.0
 
 -- how many logs an answer begins
 abbrev pub log_count : Answer → Asked → ℕ
@@ -58,6 +60,7 @@ query-one (Some page) setting from Dump own reply reply' h k =
     let same : h.0 ≡ k.0 = λ j i. consistent-same setting page h.0 k.0 h.1 k.1 i j in
     h.3 ∙ (ap (dump_reply page) same ∙ sym k.3)
 query-one (Some page) setting from Rules own reply reply' h k = h.1 ∙ sym k.1
+query-one (Some page) setting from (Match selector) own reply reply' h k = h.1 ∙ sym k.1
 
 answered-one : (answer : Answer) (setting : Setting) (from to to' : Course) (asked : Asked) (own : List Log) (reply reply' : List ℕ)
     → IsAnswered answer setting from asked own reply to → IsAnswered answer setting from asked own reply' to' → (reply ≡ reply') × (to ≡ to')
@@ -89,6 +92,7 @@ query-some : (s : State) (setting : Setting) (from : Course) (q : Query) → Sta
 unfolding refusal_of
 query-some None setting from Dump given none = absurd (cc)
 query-some None setting from Rules given none = absurd (cc)
+query-some None setting from (Match selector) given none = absurd (cc)
 query-some (Some page) setting from Dump given none =
     let a = some-consistent setting page given in
     let logs = some-logs_of setting from (query Dump) (Some a.0) in
@@ -96,6 +100,9 @@ query-some (Some page) setting from Dump given none =
 query-some (Some page) setting from Rules given none =
     let logs = some-logs_of setting from (query Rules) None in
     (logs.0, (rules_text page.sheets ++ ok_line, (logs.1, refl)))
+query-some (Some page) setting from (Match selector) given none =
+    let logs = some-logs_of setting from (query (Match selector)) None in
+    (logs.0, (match_text selector page.document.root ++ ok_line, (logs.1, refl)))
 
 accepted-some : (setting : Setting) (from : Course) (asked : Asked) (q : Request) → StateHasGivenIds from.state → refusal_of from.state q ≡ None
     → SomeAnswer (accepted q) setting from asked

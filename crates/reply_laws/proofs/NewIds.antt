@@ -12,7 +12,7 @@ use Rattle.page_laws.proofs.FirstOf.{first-false}
 use Rattle.page_laws.proofs.KeptLimits.{place-of_insert}
 use Rattle.reply_laws.specs.States.{StateHasGivenIds, ids_of_state, new_ids}
 use Rattle.request_model.specs.Requests.{edit, insert, load}
-use Rattle.request_model.specs.States.{accepted_by, is_plain, refusal_of, state_after_edit}
+use Rattle.request_model.specs.States.{accepted_by, has_text, refusal_of, state_after_edit}
 
 pub ids-loaded : (s : State) (width height : ℕ) (doc : Tree) (sheets : Option (List Text))
     → ids_of_state (state_after_edit s (load width height doc sheets)) ≡ new_ids (accepted_by s (load width height doc sheets))
@@ -22,8 +22,8 @@ pub ids-inserted : (s : State) (parent index : ℕ) (new : Tree) → StateHasGiv
     → HasRun (ids_of_state (state_after_edit s (insert parent index new))) (new_ids (accepted_by s (insert parent index new))) (ids_of_state s)
 unfolding refusal_of
 ids-inserted None parent index new given none =
-    let a = first-false (not (is_plain new)) NotBuilt ((true, NotLoaded) ∷ []) none in
+    let a = first-false (has_text new) NotBuilt ((true, NotLoaded) ∷ []) none in
     absurd (false≢true (sym (first-false true NotLoaded [] a.1).0))
 ids-inserted (Some page) parent index new given none =
-    let a = first-false (not (is_plain new)) NotBuilt (insert_causes parent index new page.document) none in
+    let a = first-false (has_text new) NotBuilt (insert_causes parent index new page.document) none in
     document-order parent index new page.document (place-of_insert parent index new page.document given a.1).0

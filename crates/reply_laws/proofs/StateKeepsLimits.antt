@@ -15,14 +15,14 @@ use Rattle.reply_laws.proofs.SheetLimits.{kept-with, kept-without}
 use Rattle.reply_laws.specs.States.{StateHasGivenIds, StateKeepsLimits}
 use Rattle.reply_model.specs.Replies.{Course, IsAnswered, IsTurn}
 use Rattle.request_model.specs.Requests.{Asked, Edit, Request, broken, edit, insert, load, nothing, query, remove, request, sheet}
-use Rattle.request_model.specs.States.{answer_by, are_over_sheet_limits, edit_causes, is_plain, refusal_of, state_after_edit}
+use Rattle.request_model.specs.States.{answer_by, are_over_sheet_limits, edit_causes, has_text, refusal_of, state_after_edit}
 use Rattle.stream_model.specs.Ledger.{Log}
 
 kept-after_edit : (s : State) (e : Edit) → StateHasGivenIds s → StateKeepsLimits s → refusal_of s (edit e) ≡ None → StateKeepsLimits (state_after_edit s e)
 unfolding refusal_of
 kept-after_edit s (load width height doc sheets) given keeps none =
     let sides : Causes = edit_causes s (load width height doc sheets) in
-    let b = first-false (not (is_plain doc)) NotBuilt sides none in
+    let b = first-false (has_text doc) NotBuilt sides none in
     let texts : List Text = unwrap_or sheets [] in
     let c = first-false (nat_lt MAX_SIDE width || nat_lt MAX_SIDE height) ViewportRange ((are_over_sheet_limits texts, SheetLimit) ∷ load_causes doc) b.1 in
     let few = first-false (are_over_sheet_limits texts) SheetLimit (load_causes doc) c.1 in
@@ -35,7 +35,7 @@ kept-after_edit s (load width height doc sheets) given keeps none =
     }
 kept-after_edit None (insert parent index new) given keeps none = tt
 kept-after_edit (Some page) (insert parent index new) given keeps none =
-    let a = first-false (not (is_plain new)) NotBuilt (insert_causes parent index new page.document) none in
+    let a = first-false (has_text new) NotBuilt (insert_causes parent index new page.document) none in
     record {
       document = kept-inserted parent index new page.document given keeps.document a.1;
       width = keeps.width;

@@ -5,7 +5,7 @@ use Rattle.page_model.specs.Pages.{Page, State}
 use Rattle.page_model.specs.Refusals.{Causes, first_of}
 use Rattle.page_model.specs.declared.cause.Cause.{Cause}
 use Rattle.request_model.specs.declared.query.Query.{Query}
-use Rattle.request_model.specs.declared.query.Query.TheVariants.{Dump, Rules}
+use Rattle.request_model.specs.declared.query.Query.TheVariants.{Dump, Match, Rules}
 use Rattle.request_model.specs.declared.accepted.Accepted.{Accepted}
 use Rattle.request_model.specs.Requests.{Edit, Request, edit, query, Asked, asked_of_line}
 use Rattle.request_model.specs.States.{Answer, silent, refused, accepted, answer_to, accepted_by, brings_tree, state_after_edit, logs_of, logs_of_refused}
@@ -14,6 +14,7 @@ use Rattle.layout_model.specs.Consistent.{Assignment, Consistent}
 use Rattle.reply_model.specs.Spelling.{ok_line, ok_nodes_line, error_line}
 use Rattle.reply_model.specs.DumpText.{dump_text}
 use Rattle.reply_model.specs.RulesText.{rules_text}
+use Rattle.reply_model.specs.MatchText.{match_text}
 
 -- where a script has come to: what is loaded, and what the last accepted edit logged
 pub record Course : Type 0 where
@@ -67,6 +68,9 @@ IsReplyOn page setting from Dump own reply =
     × (reply ≡ text_unless (first_of (dump_causes page a)) (dump_text page.document.root a ++ ok_line))
 IsReplyOn page setting from Rules own reply =
     AreLogsOf setting from (query Rules) None own × (reply ≡ rules_text page.sheets ++ ok_line)
+IsReplyOn page setting from (Match selector) own reply =
+    AreLogsOf setting from (query (Match selector)) None own
+    × (reply ≡ match_text selector page.document.root ++ ok_line)
 
 -- the reply to a query of what is loaded
 abbrev pub IsQueryReply : State → Setting → Course → Query → List Log → List ℕ → Type 0

@@ -12,7 +12,7 @@ use Rattle.page_model.specs.Jsonml.{doc_of, tree_of}
 use Rattle.page_model.specs.declared.cause.Cause.{Cause}
 use Rattle.page_model.specs.declared.cause.Cause.TheVariants.{BadJson, BadRequest, LineTooLong, NotBuilt}
 use Rattle.request_model.specs.declared.query.Query.{Query}
-use Rattle.request_model.specs.declared.query.Query.TheVariants.{Dump, Rules}
+use Rattle.request_model.specs.declared.query.Query.TheVariants.{Dump, Match, Rules}
 
 -- a request that may change what is loaded
 pub data Edit : Type 0 where
@@ -130,6 +130,14 @@ dump_of d = if members d == 1 then Some Dump else None
 unfoldable pub rules_of : Data → Option Query
 rules_of d = if members d == 1 then Some Rules else None
 
+-- a match of its selector list, where the object has no other member
+abbrev pub match_from : ℕ → Option (List ℕ) → Option Query
+match_from members (Some selector) = if members == 2 then Some (Match (chars selector)) else None
+match_from members None = None
+
+unfoldable pub match_of : Data → Option Query
+match_of d = match_from (members d) (string_at (codes "selector") d)
+
 -- the request that an object is whose `do` has this value
 unfoldable pub request_named : List ℕ → Data → Option Request
 request_named name d =
@@ -138,13 +146,13 @@ request_named name d =
     else (if bytes_eq name (codes "remove") then option_map edit (remove_of d)
     else (if bytes_eq name (codes "sheet") then option_map edit (sheet_of d)
     else (if bytes_eq name (codes "dump") then option_map query (dump_of d)
-    else (if bytes_eq name (codes "rules") then option_map query (rules_of d) else None)))))
+    else (if bytes_eq name (codes "rules") then option_map query (rules_of d)
+    else (if bytes_eq name (codes "match") then option_map query (match_of d) else None))))))
 
 -- the names of the requests that are not built yet
 abbrev pub names_not_built : List (List ℕ)
 names_not_built =
-    codes "match" ∷ codes "style"
-    ∷ codes "resize" ∷ codes "move" ∷ codes "set-attr" ∷ codes "drop-attr" ∷ codes "set-text"
+    codes "style" ∷ codes "resize" ∷ codes "move" ∷ codes "set-attr" ∷ codes "drop-attr" ∷ codes "set-text"
     ∷ codes "counts" ∷ []
 
 unfoldable pub is_name_not_built : List ℕ → Bool

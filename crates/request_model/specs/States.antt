@@ -1,19 +1,21 @@
 -- Which requests are refused, and the state that a line leaves.
-use Rattle.std.specs.Prelude.{ℕ, ◌&&◌, ◌||◌, List, [], ◌∷◌, ◌++◌, Bool, true, false, length, take, drop, suc, not, nat_lt, max, Option, Some, None, is_some, option_map, unwrap_or, codes}
+use Rattle.std.specs.Prelude.{ℕ, ◌||◌, List, [], ◌∷◌, ◌++◌, Bool, true, false, length, take, drop, suc, not, nat_lt, max, Option, Some, None, is_none, is_some, option_map, unwrap_or, codes}
 use Rattle.std.specs.List.{list_any}
-use Rattle.std.specs.Str.{bytes_eq}
-use Rattle.page_model.specs.Trees.{Text, Tree, elem, characters, Trees, no_trees, tree, size}
-use Rattle.page_model.specs.Document.{Document, document}
+use Rattle.page_model.specs.Trees.{Text, Tree, has_node, size}
+use Rattle.page_model.specs.Document.{Document, Node, document, name_at, value_at}
 use Rattle.page_model.specs.Refusals.{Causes, first_of}
 use Rattle.page_model.specs.Edits.{load_causes, insert_causes, remove_causes, document_after_insert, document_after_remove}
 use Rattle.page_model.specs.Pages.{Page, State}
 use Rattle.page_model.specs.declared.limits.TheConstants.{MAX_SIDE}
 use Rattle.page_model.specs.declared.cause.Cause.{Cause}
-use Rattle.page_model.specs.declared.cause.Cause.TheVariants.{NotLoaded, ViewportRange, SheetLimit, NoSheet, NotBuilt}
+use Rattle.page_model.specs.declared.cause.Cause.TheVariants.{NotLoaded, ViewportRange, SheetLimit, NoSheet, BadSelector, NotBuilt}
 use Rattle.rules_model.specs.Sheets.{limit_of_sheet, style_rules_of}
 use Rattle.rules_model.specs.declared.limits.TheConstants.{MAX_SHEETS}
+use Rattle.selectors_model.specs.Elements.{is_same_name}
+use Rattle.selectors_model.specs.Matching.{elements_of}
+use Rattle.selectors_model.specs.SelectorTexts.{selector_list_of_text}
 use Rattle.request_model.specs.declared.query.Query.{Query}
-use Rattle.request_model.specs.declared.query.Query.TheVariants.{Dump, Rules}
+use Rattle.request_model.specs.declared.query.Query.TheVariants.{Dump, Match, Rules}
 use Rattle.request_model.specs.declared.accepted.Accepted.{Accepted}
 use Rattle.request_model.specs.Requests.{Edit, load, insert, remove, sheet, Request, edit, query, Asked, nothing, broken, request}
 
@@ -23,21 +25,14 @@ abbrev pub is_empty : {X : Type 0} → List X → Bool
 is_empty [] = true
 is_empty (x ∷ xs) = false
 
--- a tree of `div` elements alone, without an attribute
-abbrev mutual
-  pub is_plain : Tree → Bool
-  is_plain (elem name attributes kids) = bytes_eq name (codes "div")
-      && (is_empty attributes && are_plain kids)
-  is_plain (characters text) = false
-
-  pub are_plain : Trees → Bool
-  are_plain no_trees = true
-  are_plain (tree t ts) = is_plain t && are_plain ts
+-- a text is in the tree
+abbrev pub has_text : Tree → Bool
+has_text t = has_node (λ _ _. false) (λ _. true) t
 
 -- the forms of a request in the grammar that are not built yet; they are refused before what is loaded is looked at
 abbrev pub form_causes : Request → Causes
-form_causes (edit (load width height doc sheets)) = (not (is_plain doc), NotBuilt) ∷ []
-form_causes (edit (insert parent index new)) = (not (is_plain new), NotBuilt) ∷ []
+form_causes (edit (load width height doc sheets)) = (has_text doc, NotBuilt) ∷ []
+form_causes (edit (insert parent index new)) = (has_text new, NotBuilt) ∷ []
 form_causes (edit (remove id)) = []
 form_causes (edit (sheet at css)) = []
 form_causes (query q) = []
@@ -73,10 +68,23 @@ edit_causes s (sheet at css) = needs_page s (λ page. sheet_causes at css page.s
 abbrev pub has_style_rule : Text → Bool
 has_style_rule css = not (is_empty (style_rules_of css))
 
+-- the box of an element may be another than that of a plain block: it is not a `div`, or has a `style` attribute
+abbrev pub is_styled : Node → ℕ → Bool
+is_styled root i =
+    not (is_same_name (name_at i root) (Some (codes "div"))) || is_some (value_at (codes "style") i root)
+
+-- the same of a page: a sheet has a style rule, or one of its elements is such
+abbrev pub is_styled_page : Page → Bool
+is_styled_page page =
+    list_any has_style_rule page.sheets
+    || list_any (is_styled page.document.root) (elements_of page.document.root)
+
 -- why a query is refused, whatever its assignment is
 abbrev pub query_causes : State → Query → Causes
-query_causes s Dump = needs_page s (λ page. (list_any has_style_rule page.sheets, NotBuilt) ∷ [])
+query_causes s Dump = needs_page s (λ page. (is_styled_page page, NotBuilt) ∷ [])
 query_causes s Rules = needs_page s (λ _. [])
+query_causes s (Match selector) =
+    needs_page s (λ _. (is_none (selector_list_of_text selector), BadSelector) ∷ [])
 
 abbrev pub request_causes : State → Request → Causes
 request_causes s (edit e) = edit_causes s e

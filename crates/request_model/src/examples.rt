@@ -18,12 +18,10 @@ ghost use Rattle.serde_json.specs.Data.{string, array, object, number, item, no_
 #[tactic(auto, unfolding(crate::specs::States::refusal_of))]
 pub fn examples_of_causes()
     ensures not_built_before_side { refusal_of None
-        (edit (load 10001 1 (elem (codes "p") [] no_trees) None)) ≡ Some NotBuilt }
+        (edit (load 10001 1 (elem (codes "div") [] (tree (characters []) no_trees)) None))
+        ≡ Some NotBuilt }
     ensures text_not_built { refusal_of None
         (edit (load 1 1 (elem (codes "div") [] (tree (characters []) no_trees)) None))
-        ≡ Some NotBuilt }
-    ensures attribute_not_built { refusal_of None
-        (edit (load 1 1 (elem (codes "div") ((codes "a", []) ∷ []) no_trees) None))
         ≡ Some NotBuilt }
     ensures side { refusal_of None (edit (load 1 10001 (elem (codes "div") [] no_trees) None))
         ≡ Some ViewportRange }
@@ -49,8 +47,9 @@ pub fn examples_of_causes()
     ensures bad_index { refusal_of (state_after_edit None (load 1 1 (elem (codes "div") [] no_trees) None))
         (edit (insert 0 1 (elem (codes "div") [] no_trees)))
         ≡ Some BadIndex }
-    ensures later_child_not_built { refusal_of None (edit (load 1 1 (elem (codes "div") []
-        (tree (elem (codes "div") [] no_trees) (tree (elem (codes "p") [] no_trees) no_trees))) None))
+    ensures deeper_text_not_built { refusal_of None (edit (load 1 1 (elem (codes "div") []
+        (tree (elem (codes "p") [] no_trees)
+        (tree (elem (codes "p") [] (tree (characters []) no_trees)) no_trees))) None))
         ≡ Some NotBuilt }
     ensures side_before_limits { (doc : Tree)
         → first_of (edit_causes None (load 10001 1 doc None)) ≡ Some ViewportRange }
@@ -113,11 +112,12 @@ pub fn examples_of_requests()
         (member (codes "width") (number (unsigned 1)) no_members)))))))
         ≡ broken BadRequest }
     ensures names_not_built { list_all is_name_not_built
-        (codes "match" ∷ codes "style" ∷ codes "resize" ∷ codes "move"
+        (codes "style" ∷ codes "resize" ∷ codes "move"
         ∷ codes "set-attr" ∷ codes "drop-attr" ∷ codes "set-text" ∷ codes "counts" ∷ [])
         ≡ true }
     ensures names_built { list_any is_name_not_built
-        (codes "load" ∷ codes "insert" ∷ codes "remove" ∷ codes "sheet" ∷ codes "dump" ∷ codes "rules" ∷ [])
+        (codes "load" ∷ codes "insert" ∷ codes "remove" ∷ codes "sheet" ∷ codes "dump" ∷ codes "rules"
+        ∷ codes "match" ∷ [])
         ≡ false }
     ensures insert_with_another { asked_of (Some (object (member (codes "a") null
         (member (codes "do") (string (codes "insert"))

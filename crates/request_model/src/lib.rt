@@ -5,6 +5,8 @@
 
 mod accepted;
 mod examples;
+mod match_examples;
+mod name_examples;
 mod query;
 mod sheet_examples;
 
@@ -12,6 +14,8 @@ pub use accepted::Accepted;
 pub use examples::{
     examples_of_asking, examples_of_causes, examples_of_requests, examples_of_states,
 };
+pub use match_examples::{examples_of_asking_for_matches, examples_of_match_causes};
+pub use name_examples::{examples_of_dumps_with_names, examples_of_names};
 pub use query::Query;
 pub use sheet_examples::{
     examples_of_asking_for_sheets, examples_of_dumps_with_sheets, examples_of_loaded_sheets,

@@ -1,5 +1,7 @@
 //! The requests that change nothing.
 
+use port_core::Text;
+
 /// A request that changes nothing: it reads what is loaded.
 #[derive(Debug, Drop)]
 pub enum Query {
@@ -7,4 +9,6 @@ pub enum Query {
     Dump,
     /// The style rules of all sheets.
     Rules,
+    /// The elements that a selector list matches (Selectors 4, section 4.1): its text.
+    Match(Text),
 }

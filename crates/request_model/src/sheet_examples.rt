@@ -2,9 +2,11 @@
 ghost use Rattle.std.specs.Prelude.{◌≡◌, ℕ, List, [], ◌∷◌, Some, None, true, false, codes, replicate};
 ghost use Rattle.std.specs.Str.{chars};
 ghost use Rattle.serde_json.specs.Data.{string, array, object, number, item, no_items, member, no_members, null, unsigned};
+ghost use Rattle.page_model.specs.Document.{document};
 ghost use Rattle.page_model.specs.Pages.{Page};
 ghost use Rattle.page_model.specs.Refusals.{first_of};
 ghost use Rattle.page_model.specs.Trees.{Text, Tree, elem, no_trees};
+ghost use Rattle.page_model.specs.declared.viewport.Viewport.{Viewport};
 ghost use Rattle.page_model.specs.declared.cause.Cause.TheVariants.{BadRequest, NoSheet, NotBuilt, NotLoaded, SheetLimit, ViewportRange};
 ghost use Rattle.request_model.specs.declared.query.Query.TheVariants.{Dump, Rules};
 ghost use Rattle.request_model.specs.Requests.{asked_of, broken, edit, load, query, request, sheet};
@@ -91,8 +93,12 @@ pub fn examples_of_sheets()
 pub fn examples_of_dumps_with_sheets()
     ensures rule { (page : Page) (css : Text) → has_style_rule css ≡ true
         → first_of (query_causes (Some (record page { sheets = css ∷ [] })) Dump) ≡ Some NotBuilt }
-    ensures no_rule { (page : Page) (css : Text) → has_style_rule css ≡ false
-        → first_of (query_causes (Some (record page { sheets = css ∷ [] })) Dump) ≡ None }
+    ensures no_rule { (viewport : Viewport) (css : Text) → has_style_rule css ≡ false
+        → first_of (query_causes (Some (record {
+          document = document (elem (codes "div") [] no_trees);
+          sheets = css ∷ [];
+          viewport = viewport;
+        })) Dump) ≡ None }
     ensures rules_of_any { (page : Page) → first_of (query_causes (Some page) Rules) ≡ None }
     ensures rules_not_loaded { first_of (query_causes None Rules) ≡ Some NotLoaded }
 {}

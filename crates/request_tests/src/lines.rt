@@ -1,7 +1,7 @@
 //! What lines ask for: each kind of answer once.
 use dom_arena::Tree;
 use page_model::Cause;
-use port_core::NoMemory;
+use port_core::{NoMemory, Text};
 use relayout_requests::{Asked, Edit, Request, ask};
 use request_model::Query;
 use std::alloc::Global;
@@ -71,7 +71,17 @@ fn name_of(asked: &Asked) -> &'static str {
         Asked::Broken(_) => "broken",
         Asked::Request(Request::Query(Query::Dump)) => "dump",
         Asked::Request(Request::Query(Query::Rules)) => "rules",
+        Asked::Request(Request::Query(Query::Match(text))) => name_of_match(text),
         Asked::Request(Request::Edit(edit)) => name_of_edit(edit),
+    }
+}
+
+/// Returns whether `a > b` is to be matched.
+fn name_of_match(selector: &Text) -> &'static str {
+    if selector.is("a > b") {
+        "match of a > b"
+    } else {
+        "another match"
     }
 }
 
@@ -110,6 +120,8 @@ const SHEET: &[u8] = br#"{"css":"a{}","at":0,"do":"sheet"}"#;
 
 const NO_SHEET: &[u8] = br#"{"do":"sheet","at":7,"css":null}"#;
 
+const MATCH: &[u8] = br#"{"selector":"a \u003e b","do":"match"}"#;
+
 #[test]
 fn lines_ask(rt: HostRuntime) -> Result<(), Fail> {
     expect_asked(&rt, rt.alloc(), b" \t\r", "nothing")?;
@@ -120,6 +132,7 @@ fn lines_ask(rt: HostRuntime) -> Result<(), Fail> {
     expect_asked(&rt, rt.alloc(), SHEET, "sheet of a text")?;
     expect_asked(&rt, rt.alloc(), NO_SHEET, "sheet of null")?;
     expect_asked(&rt, rt.alloc(), br#"{"do":"rules"}"#, "rules")?;
+    expect_asked(&rt, rt.alloc(), MATCH, "match of a > b")?;
     Ok(())
 }
 
@@ -146,6 +159,7 @@ fn lines_are_refused(rt: HostRuntime) -> Result<(), Fail> {
         br#"{"do":"sheet","at":0}"#,
         Cause::BadRequest,
     )?;
+    expect_broken(&rt, rt.alloc(), br#"{"do":"match"}"#, Cause::BadRequest)?;
     expect_broken(
         &rt,
         rt.alloc(),

@@ -4,6 +4,7 @@ pub mod AnPlusBs
 pub mod AttributeSelectors
 pub mod PseudoNames
 pub mod Grammar
+pub mod SelectorTexts
 pub mod Elements
 pub mod Values
 pub mod Matching

@@ -32,7 +32,7 @@ const ROWS: [(&[u8], &[u8]); 36] = [
         b"error 21 not-built\n",
     ),
     (
-        br#"{"do":"load","width":10001,"height":20,"doc":["p"]}"#,
+        br#"{"do":"load","width":10001,"height":20,"doc":["p","text"]}"#,
         b"error 21 not-built\n",
     ),
     (
@@ -144,7 +144,7 @@ ok
 {"do":"insert","parent":2,"index":1,"tree":["div"]}
 {"do":"remove","id":3}
 {"do":"remove","id":3}
-{"do":"load","width":800,"height":600,"doc":["p"]}"#,
+{"do":"load","width":800,"height":600,"doc":["div","text"]}"#,
         br#"error 4 not-loaded
 ok 0 4
 box 0 div 0 0 51200 0 51200 0

@@ -1,24 +1,19 @@
 -- Words of the examples.
 use Rattle.std.specs.Prelude.{List, [], ◌∷◌, Option, option_map, option_and_then, is_some, unwrap_or, ℕ, ℤ, Bool}
 use Rattle.css_model.specs.Classes.{Text}
-use Rattle.css_model.specs.Components.{Components}
-use Rattle.css_model.specs.inner.Nesting.{nesting}
-use Rattle.css_model.specs.inner.Pieces.{tokens}
 use Rattle.page_model.specs.Document.{Node}
 use Rattle.selectors_model.specs.AnPlusBs.{an_plus_b_of}
 use Rattle.selectors_model.specs.declared.spec.Spec.{Spec}
-use Rattle.selectors_model.specs.Grammar.{selector_list_within}
+use Rattle.rules_model.specs.Sheets.{components_of}
 use Rattle.selectors_model.specs.TokenTypes.{types_of}
 use Rattle.selectors_model.specs.Matching.{matched}
+use Rattle.selectors_model.specs.SelectorTexts.{selector_list_of_text}
 use Rattle.selectors_model.specs.Selectors.{SelectorList, no_selectors, selector}
 use Rattle.selectors_model.specs.Specificity.{specificity, matching_specificity}
 
-abbrev pub components : Text → Components
-components text = nesting (tokens text)
-
 -- the selector list of a text
 abbrev pub list : Text → Option SelectorList
-list text = selector_list_within (components text)
+list text = selector_list_of_text text
 
 -- the text is a selector list
 abbrev pub is_list : Text → Bool
@@ -26,7 +21,7 @@ is_list text = is_some (list text)
 
 -- A and B of a text
 abbrev pub an_plus_b : Text → Option (ℤ × ℤ)
-an_plus_b text = option_map (λ at. (at.step, at.offset)) (an_plus_b_of (types_of (components text)))
+an_plus_b text = option_map (λ at. (at.step, at.offset)) (an_plus_b_of (types_of (components_of text)))
 
 -- the ids of the elements that a text matches
 abbrev pub matched_by : Node → Text → Option (List ℕ)

@@ -1,7 +1,7 @@
 use Rattle.std.proofs.Common.{refl}
 use Rattle.request_model.specs.Requests.{query}
 use Rattle.page_model.specs.declared.cause.Cause.TheVariants.{NotLoaded}
-use Rattle.relayout_cli.proofs.ResponseLemmas.{OnOk-dumped, OnOk-rules, OnOk-refused, query-not_loaded}
+use Rattle.relayout_cli.proofs.ResponseLemmas.{OnOk-dumped, OnOk-matched, OnOk-rules, OnOk-refused, query-not_loaded}
 use Rattle.relayout_cli.proofs.respond.respond_query.Goals as goal
 
 pub returns-in-Dump : goal.returns-in-Dump
@@ -9,6 +9,11 @@ returns-in-Dump c = record { response = rw c.in-Dump.is (OnOk-dumped c.respond_d
 
 pub returns-in-Rules : goal.returns-in-Rules
 returns-in-Rules c = record { response = rw c.in-Rules.is (OnOk-rules c.push_rules.result c.args.state.now c.in-Some.page _ _ c.in-Some.is c.push_rules.ensures c.requires.empty) }
+
+pub returns-in-Match : goal.returns-in-Match
+returns-in-Match c = record {
+  response = rw c.in-Match.is (OnOk-matched c.respond_match.result c.args.state.now c.in-Some.page c.in-Match.selector _ c.in-Some.is c.respond_match.ensures);
+}
 
 pub returns-in-None : goal.returns-in-None
 returns-in-None c = record {
