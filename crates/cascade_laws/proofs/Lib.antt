@@ -1,2 +1,3 @@
 pub mod Strength
 pub mod Winning
+pub mod Values

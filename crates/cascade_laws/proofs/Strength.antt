@@ -1,6 +1,7 @@
 -- Strength is an order: it goes in one direction, and what is between is weaker or stronger.
 use Rattle.std.proofs.Common.{◌≡◌, ◌∙◌, ap, sym, refl, ℕ, ◌==◌, nat_lt, if◌then◌else◌, Bool, true, false, arith}
 use Rattle.std.proofs.lemmas.Bool.Decides.{nat_tests}
+use Rattle.std.specs.Bool.{beq}
 use Rattle.selectors_model.specs.declared.spec.Spec.{Spec}
 use Rattle.selectors_model.specs.Specificity.{is_less_spec}
 use Rattle.cascade_model.specs.Applied.{Applied}
@@ -45,8 +46,7 @@ abbrev attribute : Applied → ℕ
 attribute d = if d.in_attribute then 1 else 0
 
 attribute-step : (x y rest : Bool)
-    → (if x then if y then rest else true else if y then false else rest)
-    ≡ step (if y then 1 else 0) (if x then 1 else 0) rest
+    → (if beq x y then rest else x) ≡ step (if y then 1 else 0) (if x then 1 else 0) rest
 attribute-step true true rest = refl
 attribute-step true false rest = refl
 attribute-step false true rest = refl

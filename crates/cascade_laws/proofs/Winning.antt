@@ -6,6 +6,7 @@ use Rattle.std.proofs.lemmas.Bool.{cases_Bool, eqb-false, eqb-true, false≢true
 use Rattle.std.proofs.lemmas.Bool.Decides.{nat_tests}
 use Rattle.value_model.specs.declared.prop.Prop.{Prop}
 use Rattle.value_model.specs.Properties.{is_same_prop}
+use Rattle.value_laws.proofs.Places.{same-is, is-same}
 use Rattle.cascade_model.specs.Applied.{Applied}
 use Rattle.cascade_model.specs.Order.{is_stronger, outranks, IsWinner, winner, stronger_of}
 use Rattle.cascade_laws.specs.Winners.{Beats}
@@ -135,25 +136,25 @@ first-alone : (p : Prop) (d : Applied) (ds : List Applied) → is_same_prop p d.
     → IsWinner (d ∷ ds) p 0 d
 first-alone p d ds h w = record {
   stands = refl;
-  of_property = h;
+  of_property = sym (same-is p d.prop h);
   not_outranked = others;
 }
   where
-    others : (n : ℕ) (e : Applied) → slice_get (d ∷ ds) n ≡ Some e → is_same_prop p e.prop ≡ true
+    others : (n : ℕ) (e : Applied) → slice_get (d ∷ ds) n ≡ Some e → e.prop ≡ p
         → outranks e n d 0 ≡ false
     others zero e g same = ap (λ x. outranks x 0 d 0) (sym (same-some d e g)) ∙ not-itself d 0
-    others (suc n) e g same = absurd (false≢true (sym (none-placed ds p n e w g) ∙ same))
+    others (suc n) e g same = absurd (false≢true (sym (none-placed ds p n e w g) ∙ is-same p e.prop (sym same)))
 
 -- the one in front, where it is stronger than the winner of those after it
 first-stronger : (p : Prop) (d e : Applied) (ds : List Applied) (k : ℕ) → is_same_prop p d.prop ≡ true
     → IsWinner ds p k e → is_stronger d e ≡ true → IsWinner (d ∷ ds) p 0 d
 first-stronger p d e ds k h w s = record {
   stands = refl;
-  of_property = h;
+  of_property = sym (same-is p d.prop h);
   not_outranked = others;
 }
   where
-    others : (n : ℕ) (f : Applied) → slice_get (d ∷ ds) n ≡ Some f → is_same_prop p f.prop ≡ true
+    others : (n : ℕ) (f : Applied) → slice_get (d ∷ ds) n ≡ Some f → f.prop ≡ p
         → outranks f n d 0 ≡ false
     others zero f g same = ap (λ x. outranks x 0 d 0) (sym (same-some d f g)) ∙ not-itself d 0
     others (suc n) f g same =
@@ -168,7 +169,7 @@ behind-first p d e ds k w s = record {
   not_outranked = others;
 }
   where
-    others : (n : ℕ) (f : Applied) → slice_get (d ∷ ds) n ≡ Some f → is_same_prop p f.prop ≡ true
+    others : (n : ℕ) (f : Applied) → slice_get (d ∷ ds) n ≡ Some f → f.prop ≡ p
         → outranks f n e (suc k) ≡ false
     others zero f g same = ap (λ x. outranks x 0 e (suc k)) (sym (same-some d f g)) ∙ not-by-first d e k s
     others (suc n) f g same = not-outranked-behind e f k n (w.not_outranked n f g same)
@@ -182,10 +183,10 @@ behind-other p d e ds k w h = record {
   not_outranked = others;
 }
   where
-    others : (n : ℕ) (f : Applied) → slice_get (d ∷ ds) n ≡ Some f → is_same_prop p f.prop ≡ true
+    others : (n : ℕ) (f : Applied) → slice_get (d ∷ ds) n ≡ Some f → f.prop ≡ p
         → outranks f n e (suc k) ≡ false
     others zero f g same =
-        absurd (false≢true (sym h ∙ (ap (λ x. is_same_prop p x.prop) (same-some d f g) ∙ same)))
+        absurd (false≢true (sym h ∙ (ap (λ x. is_same_prop p x.prop) (same-some d f g) ∙ is-same p f.prop (sym same))))
     others (suc n) f g same = not-outranked-behind e f k n (w.not_outranked n f g same)
 
 -- ---- the winner is found
@@ -219,3 +220,8 @@ found (e ∷ ds) p d w = elim (cases_Bool (is_same_prop p e.prop)) [
       let behind : (n : ℕ) × IsWinner ds p n d = found ds p d (sym (winner-other p e ds h) ∙ w) in
       (suc behind.0, behind-other p e d ds behind.0 behind.1 h)
 ]
+
+-- where nothing is found, none is of the property
+pub none-of : (ds : List Applied) (p : Prop) (n : ℕ) (e : Applied)
+    → winner p ds ≡ None → slice_get ds n ≡ Some e → e.prop ≢ p
+none-of ds p n e w g same = false≢true (sym (none-placed ds p n e w g) ∙ is-same p e.prop (sym same))

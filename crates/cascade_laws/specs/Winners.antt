@@ -2,7 +2,6 @@
 use Rattle.std.specs.Prelude.{ℕ, ◌≡◌, ◌≢◌, ◌⊎◌, List, Some, None, true, false}
 use Rattle.std.specs.List.{slice_get}
 use Rattle.value_model.specs.declared.prop.Prop.{Prop}
-use Rattle.value_model.specs.Properties.{is_same_prop}
 use Rattle.cascade_model.specs.Applied.{Applied}
 use Rattle.cascade_model.specs.Order.{outranks, IsWinner, winner}
 
@@ -27,4 +26,4 @@ AreRight = (ds : List Applied) (p : Prop) (d : Applied) → winner p ds ≡ Some
 -- where none is found, no declaration is of the property
 abbrev pub ArePlaced : Type 0
 ArePlaced = (ds : List Applied) (p : Prop) (n : ℕ) (e : Applied)
-    → winner p ds ≡ None → slice_get ds n ≡ Some e → is_same_prop p e.prop ≡ false
+    → winner p ds ≡ None → slice_get ds n ≡ Some e → e.prop ≢ p

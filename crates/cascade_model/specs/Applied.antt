@@ -1,6 +1,8 @@
 -- The declarations that apply to an element (CSS Cascade 4, section 4.1).
 use Rattle.std.specs.Prelude.{ℕ, List, [], ◌∷◌, ◌++◌, map, Option, Some, None, Bool, true, false}
 use Rattle.page_model.specs.Document.{Node}
+use Rattle.conditions_model.specs.declared.tri.Tri.{Tri}
+use Rattle.conditions_model.specs.declared.tri.Tri.TheVariants.{Yes, No, Unknown}
 use Rattle.selectors_model.specs.declared.spec.Spec.{Spec}
 use Rattle.selectors_model.specs.Specificity.{spec, matching_specificity}
 use Rattle.value_model.specs.declared.prop.Prop.{Prop}
@@ -60,6 +62,15 @@ abbrev pub applied_in_rules : List MatchedRule → List Applied
 applied_in_rules [] = []
 applied_in_rules (m ∷ matched) = map (applied_in_rule m) m.rule.declarations ++ applied_in_rules matched
 
--- the declarations of the rules and then those of the `style` attribute, in order of appearance
-abbrev pub applied_of : List MatchedRule → List Kept → List Applied
-applied_of matched inline = applied_in_rules matched ++ map applied_in_attribute inline
+-- the matched rules whose conditions are all Yes, where these are the answers to the conditions of each
+abbrev pub answered : List MatchedRule → List Tri → List MatchedRule
+answered (m ∷ matched) (Yes ∷ answers) = m ∷ answered matched answers
+answered (m ∷ matched) (No ∷ answers) = answered matched answers
+answered (m ∷ matched) (Unknown ∷ answers) = answered matched answers
+answered matched answers = []
+
+-- the declarations of the rules that apply and then those of the `style` attribute, in order of
+-- appearance
+abbrev pub applied_of : List MatchedRule → List Tri → List Kept → List Applied
+applied_of matched answers inline =
+    applied_in_rules (answered matched answers) ++ map applied_in_attribute inline

@@ -2,7 +2,7 @@ pub mod Kept
 pub mod Books
 pub mod Applied
 pub mod Order
-pub mod Styles
+pub mod Defaulting
 pub mod StyleEquation
-pub mod Styled
+pub mod DocumentStyles
 pub mod inner

@@ -1,5 +1,6 @@
 -- The order of declarations, and the one that wins (CSS Cascade 4, section 6.1).
 use Rattle.std.specs.Prelude.{ℕ, nat_lt, ◌==◌, ◌≡◌, if◌then◌else◌, List, [], ◌∷◌, Option, Some, None, Bool, true, false}
+use Rattle.std.specs.Bool.{beq}
 use Rattle.std.specs.List.{slice_get}
 use Rattle.selectors_model.specs.Specificity.{is_less_spec}
 use Rattle.value_model.specs.declared.prop.Prop.{Prop}
@@ -21,9 +22,8 @@ level_of a = level a.origin a.important
 -- a `style` attribute before rules, and then the specificity
 abbrev pub is_more_specific : Applied → Applied → Bool
 is_more_specific a b =
-    if a.in_attribute
-    then if b.in_attribute then is_less_spec b.specificity a.specificity else true
-    else if b.in_attribute then false else is_less_spec b.specificity a.specificity
+    if beq a.in_attribute b.in_attribute then is_less_spec b.specificity a.specificity
+    else a.in_attribute
 
 -- stronger than another wherever each of them stands
 abbrev pub is_stronger : Applied → Applied → Bool
@@ -38,8 +38,8 @@ outranks a m b n = if is_stronger a b then true else if is_stronger b a then fal
 -- this declaration of the list is of the property, and no other of the property outranks it
 pub record IsWinner (ds : List Applied) (p : Prop) (place : ℕ) (d : Applied) : Type 0 where
   pub stands : slice_get ds place ≡ Some d
-  pub of_property : is_same_prop p d.prop ≡ true
-  pub not_outranked : (n : ℕ) (e : Applied) → slice_get ds n ≡ Some e → is_same_prop p e.prop ≡ true
+  pub of_property : d.prop ≡ p
+  pub not_outranked : (n : ℕ) (e : Applied) → slice_get ds n ≡ Some e → e.prop ≡ p
       → outranks e n d place ≡ false
 
 -- ---- the same, found

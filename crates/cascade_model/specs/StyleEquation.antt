@@ -1,25 +1,24 @@
 -- The style of an element: its font size first, and then all properties (CSS Cascade 4, section 4.4;
 -- CSS Values 4, section 6.1).
-use Rattle.std.specs.Prelude.{ℤ, if◌then◌else◌, List, map, is_none, Option, option_map}
+use Rattle.std.specs.Prelude.{ℤ, if◌then◌else◌, map, is_none, Option, option_map}
 use Rattle.value_model.specs.declared.length_unit.Bases.{Bases}
 use Rattle.value_model.specs.declared.prop.Prop.{Prop}
 use Rattle.value_model.specs.declared.prop.Prop.TheVariants.{FontSize}
 use Rattle.value_model.specs.Properties.{properties}
 use Rattle.value_model.specs.Values.{Final}
-use Rattle.cascade_model.specs.Applied.{Applied}
-use Rattle.cascade_model.specs.Styles.{Style, value_of_property, style_of_border, width_beside, root_value, units_of_final}
+use Rattle.cascade_model.specs.Defaulting.{Style, Winners, value_of_property, style_of_border, width_beside, root_value, units_of_final}
 
--- what an element's style is made of: the declarations that apply to it, the style of its parent, and
--- what lengths refer to, `em` being the font size of the parent and, for the root, `em` and `rem` the
--- initial one
+-- what an element's style is made of: the values that win, the style of its parent, and what lengths
+-- refer to, `em` being the font size of the parent and, for the root, `em` and `rem` the initial one
 pub record Given : Type 0 where
-  pub declarations : List Applied
+  pub winners : Winners
   pub parent : Option Style
   pub bases : Bases
 
--- in `font-size` relative lengths refer to the font sizes of the parent
+-- in `font-size`, `em` is the font size of the parent and `rem` that of the root; at the root both are the
+-- initial one
 abbrev pub font_size : Given → ℤ
-font_size g = units_of_final (value_of_property g.declarations g.parent g.bases g.bases.em FontSize)
+font_size g = units_of_final (value_of_property g.winners g.parent g.bases g.bases.em FontSize)
 
 -- in all other properties `em` is the element's font size, and `rem` the root's
 abbrev pub own_bases : Given → Bases
@@ -39,7 +38,7 @@ bases_of g p = own_bases g
 
 -- the value of a property by itself
 abbrev pub own_value : Given → Prop → Final
-own_value g p = value_of_property g.declarations g.parent (bases_of g p) g.bases.em p
+own_value g p = value_of_property g.winners g.parent (bases_of g p) g.bases.em p
 
 -- the width of a border beside its style
 abbrev pub bordered_value : Given → Prop → Final

@@ -1,1 +1,2 @@
 pub mod Longhands
+pub mod Places

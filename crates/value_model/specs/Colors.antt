@@ -1,4 +1,4 @@
--- Colours, and how they are written (CSS Color 4, sections 5.2, 6.1 to 6.3).
+-- Colours, and how they are written (CSS Color 4, sections 5.2, 6.1, 6.3 and 6.4).
 use Rattle.std.specs.Prelude.{ℕ, ◌+◌, ◌*◌, if◌then◌else◌, List, [], ◌∷◌, codes, Option, Some, None, option_map, option_and_then}
 use Rattle.std.specs.List.{list_all}
 use Rattle.std.specs.Map.{lookup}
@@ -38,7 +38,7 @@ rgba_of_digits other = None
 abbrev pub rgba_of_hex : Text → Option Rgba
 rgba_of_hex name = if list_all is_hex_digit name then rgba_of_digits name else None
 
--- ---- names (sections 6.1 to 6.3)
+-- ---- names (sections 6.1 and 6.3)
 
 -- the named colours, and their hexadecimal notation
 abbrev pub color_names : List (Text × Text)

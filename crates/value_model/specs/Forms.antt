@@ -140,7 +140,7 @@ containment_of [] = None
 containment_of (c ∷ []) = option_or (whole_containment c) (containment_of_words (c ∷ []))
 containment_of (c ∷ d ∷ cs) = containment_of_words (c ∷ d ∷ cs)
 
--- ---- `container-name` (CSS Conditional 5, section 4.2)
+-- ---- `container-name` (CSS Conditional 5, section 5.2)
 
 -- the identifiers that are no name of a container, in any case
 abbrev pub no_container_names : List Text

@@ -182,7 +182,7 @@ abbrev pub border_values_of : List Border → List Component → Option (List Lo
 border_values_of sides [] = None
 border_values_of sides (c ∷ cs) = option_map (border_values sides) (border_parts (c ∷ cs))
 
--- ---- `container` (CSS Conditional 5, section 4.3)
+-- ---- `container` (CSS Conditional 5, section 5.3)
 
 abbrev pub is_slash_type : TokenType → Bool
 is_slash_type (Delim c) = c == 47

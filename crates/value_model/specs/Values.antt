@@ -1,4 +1,4 @@
--- Values as they are declared, and as they are computed (CSS Cascade 4, sections 4.2 and 4.4).
+-- Values as they are declared, and as they are computed (CSS Cascade 4, sections 4.1 and 4.4).
 use Rattle.std.specs.Prelude.{ℤ, List}
 use Rattle.css_model.specs.Classes.{Text}
 use Rattle.value_model.specs.declared.color.Color.{Color}

@@ -14,7 +14,7 @@ pub struct Rgba {
     pub alpha: u8,
 }
 
-/// A colour as it is computed (CSS Color 4, section 6.2).
+/// A colour as it is computed (CSS Color 4, section 6.4).
 #[derive(Clone, Copy, Debug, PartialEq, Eq)]
 pub enum Color {
     /// The value of `color`.

@@ -1,10 +1,10 @@
 //! Defaulting (CSS Cascade 4, section 7), and what makes a style whole.
-ghost use Rattle.cascade_model.specs.inner.Examples.{leaf, of_child, of_root, page_with, parent, units};
-ghost use Rattle.std.specs.Prelude.{[], codes, pos, ◌≡◌};
+ghost use Rattle.cascade_model.specs.inner.Examples.{attribute, leaf, of_child, of_root, page_with, parent, units};
+ghost use Rattle.std.specs.Prelude.{[], codes, pos, ◌∷◌, ◌≡◌};
 ghost use Rattle.value_model.specs.Colors.{rgba};
 ghost use Rattle.value_model.specs.Values.{alpha, color, integer, keyword};
 ghost use Rattle.value_model.specs.declared.color.Color.TheVariants.{CurrentColor, Rgba};
-ghost use Rattle.value_model.specs.declared.keyword.Keyword.TheVariants.{Auto, Block, Hidden, Inline, InlineBlock, None as NoneKeyword, Right};
+ghost use Rattle.value_model.specs.declared.keyword.Keyword.TheVariants.{Auto, Block, FlowRoot, Hidden, Inline, InlineBlock, None as NoneKeyword, Right};
 ghost use Rattle.value_model.specs.declared.prop.Prop.TheVariants.{BackgroundColor, BorderBottomWidth, BorderLeftWidth, BorderRightWidth, BorderTopWidth, Color, Display, FontSize, FontWeight, Height, MaxWidth, Opacity, TextAlign, Visibility, Width};
 
 /// What is inherited and what is not.
@@ -125,5 +125,35 @@ pub fn root_display_kept()
 #[tactic(auto, unfolding(css_model::specs::inner::Nesting::levels_of, css_model::specs::inner::Pieces::pieces_after, css_model::specs::inner::Fronts::parts_after))]
 pub fn initial_display()
     ensures block { of_root (page_with (codes "") (codes "") (leaf 0 (codes "q") [])) Display
+        ≡ keyword Block }
+{}
+
+/// `revert` takes the winner of the user agent.
+#[tactic(auto, unfolding(css_model::specs::inner::Nesting::levels_of, css_model::specs::inner::Pieces::pieces_after, css_model::specs::inner::Fronts::parts_after))]
+pub fn revert_among_several()
+    ensures width { of_root (page_with (codes "#b{width:1px}p{width:3px}") (codes "p{width:revert}") (leaf 0 (codes "p") (attribute (codes "id") (codes "b") ∷ []))) Width
+        ≡ units 64 }
+{}
+
+/// A border style that is inherited.
+#[tactic(auto, unfolding(css_model::specs::inner::Nesting::levels_of, css_model::specs::inner::Pieces::pieces_after, css_model::specs::inner::Fronts::parts_after))]
+pub fn inherited_border_style()
+    ensures solid { of_child (page_with (codes "") (codes "div{border-top:2px solid;border-left:2px hidden}p{border-width:1px;border-style:inherit}") (parent 0 (codes "div") [] (leaf 1 (codes "p") []))) BorderTopWidth
+        ≡ units 64 }
+    ensures hidden { of_child (page_with (codes "") (codes "div{border-top:2px solid;border-left:2px hidden}p{border-width:1px;border-style:inherit}") (parent 0 (codes "div") [] (leaf 1 (codes "p") []))) BorderLeftWidth
+        ≡ units 0 }
+{}
+
+/// Another `display` of the root stays.
+#[tactic(auto, unfolding(css_model::specs::inner::Nesting::levels_of, css_model::specs::inner::Pieces::pieces_after, css_model::specs::inner::Fronts::parts_after))]
+pub fn flow_root()
+    ensures root { of_root (page_with (codes "") (codes "div{display:flow-root}") (leaf 0 (codes "div") [])) Display
+        ≡ keyword FlowRoot }
+{}
+
+/// What is inherited from the root is its computed `display`.
+#[tactic(auto, unfolding(css_model::specs::inner::Nesting::levels_of, css_model::specs::inner::Pieces::pieces_after, css_model::specs::inner::Fronts::parts_after))]
+pub fn display_of_root()
+    ensures child { of_child (page_with (codes "") (codes "p{display:inherit}") (parent 0 (codes "div") [] (leaf 1 (codes "p") []))) Display
         ≡ keyword Block }
 {}

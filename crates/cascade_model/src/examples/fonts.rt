@@ -2,20 +2,24 @@
 ghost use Rattle.cascade_model.specs.inner.Examples.{leaf, of_child, of_grandchild, of_root, page_with, parent, units};
 ghost use Rattle.std.specs.Prelude.{[], codes, pos, ◌≡◌};
 ghost use Rattle.value_model.specs.Values.{number};
-ghost use Rattle.value_model.specs.declared.prop.Prop.TheVariants.{FontSize, Height, LineHeight, MaxHeight, MaxWidth, Width};
+ghost use Rattle.value_model.specs.declared.prop.Prop.TheVariants.{FontSize, Height, LineHeight, MaxHeight, MaxWidth, MinHeight, MinWidth, Width};
 
 /// Lengths at the root: `em` and `rem` of `font-size` are 16 pixels.
 #[tactic(auto, unfolding(css_model::specs::inner::Nesting::levels_of, css_model::specs::inner::Pieces::pieces_after, css_model::specs::inner::Fronts::parts_after))]
 pub fn root()
-    ensures font_size { of_root (page_with (codes "") (codes "div{font-size:2em;width:1em;height:1rem;max-width:1vw;max-height:1cqh}") (leaf 0 (codes "div") [])) FontSize
+    ensures font_size { of_root (page_with (codes "") (codes "div{font-size:2em;width:1em;height:1rem;max-width:1vw;min-width:1vh;min-height:1cqw;max-height:1cqh}") (leaf 0 (codes "div") [])) FontSize
         ≡ units 2048 }
-    ensures em { of_root (page_with (codes "") (codes "div{font-size:2em;width:1em;height:1rem;max-width:1vw;max-height:1cqh}") (leaf 0 (codes "div") [])) Width
+    ensures em { of_root (page_with (codes "") (codes "div{font-size:2em;width:1em;height:1rem;max-width:1vw;min-width:1vh;min-height:1cqw;max-height:1cqh}") (leaf 0 (codes "div") [])) Width
         ≡ units 2048 }
-    ensures rem { of_root (page_with (codes "") (codes "div{font-size:2em;width:1em;height:1rem;max-width:1vw;max-height:1cqh}") (leaf 0 (codes "div") [])) Height
+    ensures rem { of_root (page_with (codes "") (codes "div{font-size:2em;width:1em;height:1rem;max-width:1vw;min-width:1vh;min-height:1cqw;max-height:1cqh}") (leaf 0 (codes "div") [])) Height
         ≡ units 2048 }
-    ensures viewport { of_root (page_with (codes "") (codes "div{font-size:2em;width:1em;height:1rem;max-width:1vw;max-height:1cqh}") (leaf 0 (codes "div") [])) MaxWidth
+    ensures viewport_width { of_root (page_with (codes "") (codes "div{font-size:2em;width:1em;height:1rem;max-width:1vw;min-width:1vh;min-height:1cqw;max-height:1cqh}") (leaf 0 (codes "div") [])) MaxWidth
         ≡ units 512 }
-    ensures container { of_root (page_with (codes "") (codes "div{font-size:2em;width:1em;height:1rem;max-width:1vw;max-height:1cqh}") (leaf 0 (codes "div") [])) MaxHeight
+    ensures viewport_height { of_root (page_with (codes "") (codes "div{font-size:2em;width:1em;height:1rem;max-width:1vw;min-width:1vh;min-height:1cqw;max-height:1cqh}") (leaf 0 (codes "div") [])) MinWidth
+        ≡ units 384 }
+    ensures container_width { of_root (page_with (codes "") (codes "div{font-size:2em;width:1em;height:1rem;max-width:1vw;min-width:1vh;min-height:1cqw;max-height:1cqh}") (leaf 0 (codes "div") [])) MinHeight
+        ≡ units 512 }
+    ensures container_height { of_root (page_with (codes "") (codes "div{font-size:2em;width:1em;height:1rem;max-width:1vw;min-width:1vh;min-height:1cqw;max-height:1cqh}") (leaf 0 (codes "div") [])) MaxHeight
         ≡ units 384 }
 {}
 

@@ -1,5 +1,5 @@
 //! The order of declarations (CSS Cascade 4, section 6).
-ghost use Rattle.cascade_model.specs.inner.Examples.{attribute, leaf, of_root, page_with, units};
+ghost use Rattle.cascade_model.specs.inner.Examples.{attribute, page_with_two, leaf, of_root, page_with, units};
 ghost use Rattle.std.specs.Prelude.{[], codes, ◌∷◌, ◌≡◌};
 ghost use Rattle.value_model.specs.Colors.{rgba};
 ghost use Rattle.value_model.specs.Values.{color, keyword};
@@ -65,4 +65,38 @@ pub fn shorthands()
         ≡ units 192 }
     ensures border { of_root (page_with (codes "") (codes "div{margin-top:1px;margin:2px;margin-left:3px;border:solid;border-width:inherit}") (leaf 0 (codes "div") [])) BorderTopWidth
         ≡ units 192 }
+{}
+
+/// Two sheets: specificity before the order of sheets, and the later sheet before the earlier one.
+#[tactic(auto, unfolding(css_model::specs::inner::Nesting::levels_of, css_model::specs::inner::Pieces::pieces_after, css_model::specs::inner::Fronts::parts_after))]
+pub fn sheets()
+    ensures later_sheet { of_root (page_with_two (codes "") (codes "div{width:1px}.c{height:1px}") (codes "div{width:2px;height:2px}") (leaf 0 (codes "div") (attribute (codes "class") (codes "c") ∷ []))) Width
+        ≡ units 128 }
+    ensures specificity { of_root (page_with_two (codes "") (codes "div{width:1px}.c{height:1px}") (codes "div{width:2px;height:2px}") (leaf 0 (codes "div") (attribute (codes "class") (codes "c") ∷ []))) Height
+        ≡ units 64 }
+{}
+
+/// Declarations of one attribute.
+#[tactic(auto, unfolding(css_model::specs::inner::Nesting::levels_of, css_model::specs::inner::Pieces::pieces_after, css_model::specs::inner::Fronts::parts_after))]
+pub fn one_attribute()
+    ensures later { of_root (page_with (codes "") (codes "") (leaf 0 (codes "div") (attribute (codes "style") (codes "width:1px;width:2px;height:1px!important;height:2px") ∷ []))) Width
+        ≡ units 128 }
+    ensures important { of_root (page_with (codes "") (codes "") (leaf 0 (codes "div") (attribute (codes "style") (codes "width:1px;width:2px;height:1px!important;height:2px") ∷ []))) Height
+        ≡ units 64 }
+{}
+
+/// An important shorthand over a later longhand.
+#[tactic(auto, unfolding(css_model::specs::inner::Nesting::levels_of, css_model::specs::inner::Pieces::pieces_after, css_model::specs::inner::Fronts::parts_after))]
+pub fn important_shorthand()
+    ensures margin { of_root (page_with (codes "") (codes "div{margin:1px!important;margin-top:2px}") (leaf 0 (codes "div") [])) MarginTop
+        ≡ units 64 }
+{}
+
+/// `all` before and after another declaration.
+#[tactic(auto, unfolding(css_model::specs::inner::Nesting::levels_of, css_model::specs::inner::Pieces::pieces_after, css_model::specs::inner::Fronts::parts_after))]
+pub fn all()
+    ensures before { of_root (page_with (codes "") (codes "p{width:1px;all:initial;height:1px}") (leaf 0 (codes "p") [])) Width
+        ≡ keyword Auto }
+    ensures after { of_root (page_with (codes "") (codes "p{width:1px;all:initial;height:1px}") (leaf 0 (codes "p") [])) Height
+        ≡ units 64 }
 {}

@@ -29,6 +29,14 @@ first read other = None
 abbrev pub millionths : Text → Option ℤ
 millionths text = option_map (length_value bases) (first length_of (components_of text))
 
+-- bases that divide unevenly, and of which the heights are more than the widths
+abbrev pub uneven_bases : Bases
+uneven_bases =
+    record { em = pos 641; rem = pos 1283; vw = pos 32001; vh = pos 64003; cqw = pos 25603; cqh = pos 19201 }
+
+abbrev pub uneven_millionths : Text → Option ℤ
+uneven_millionths css = option_map (length_value uneven_bases) (first length_of (components_of css))
+
 -- a length or percentage as it is computed
 abbrev pub in_length : Text → Option ComputedLength
 in_length text = option_map (computed_length bases) (first length_or_percentage_of (components_of text))

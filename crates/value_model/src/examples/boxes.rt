@@ -215,6 +215,44 @@ pub fn borders()
     ensures border_top_style_ridge { final BorderTopStyle (codes "ridge") ≡ Some (keyword Ridge) }
     ensures border_top_style_inset { final BorderTopStyle (codes "inset") ≡ Some (keyword Inset) }
     ensures border_top_style_outset { final BorderTopStyle (codes "outset") ≡ Some (keyword Outset) }
+    ensures border_right_style_hidden { final BorderRightStyle (codes "hidden")
+        ≡ Some (keyword Hidden) }
+    ensures border_right_style_dotted { final BorderRightStyle (codes "dotted")
+        ≡ Some (keyword Dotted) }
+    ensures border_right_style_dashed { final BorderRightStyle (codes "dashed")
+        ≡ Some (keyword Dashed) }
+    ensures border_right_style_double { final BorderRightStyle (codes "double")
+        ≡ Some (keyword Double) }
+    ensures border_right_style_groove { final BorderRightStyle (codes "groove")
+        ≡ Some (keyword Groove) }
+    ensures border_right_style_ridge { final BorderRightStyle (codes "ridge") ≡ Some (keyword Ridge) }
+    ensures border_right_style_inset { final BorderRightStyle (codes "inset") ≡ Some (keyword Inset) }
+    ensures border_right_style_outset { final BorderRightStyle (codes "outset")
+        ≡ Some (keyword Outset) }
+    ensures border_bottom_style_hidden { final BorderBottomStyle (codes "hidden")
+        ≡ Some (keyword Hidden) }
+    ensures border_bottom_style_dotted { final BorderBottomStyle (codes "dotted")
+        ≡ Some (keyword Dotted) }
+    ensures border_bottom_style_dashed { final BorderBottomStyle (codes "dashed")
+        ≡ Some (keyword Dashed) }
+    ensures border_bottom_style_double { final BorderBottomStyle (codes "double")
+        ≡ Some (keyword Double) }
+    ensures border_bottom_style_groove { final BorderBottomStyle (codes "groove")
+        ≡ Some (keyword Groove) }
+    ensures border_bottom_style_ridge { final BorderBottomStyle (codes "ridge")
+        ≡ Some (keyword Ridge) }
+    ensures border_bottom_style_inset { final BorderBottomStyle (codes "inset")
+        ≡ Some (keyword Inset) }
+    ensures border_bottom_style_outset { final BorderBottomStyle (codes "outset")
+        ≡ Some (keyword Outset) }
+    ensures border_left_style_hidden { final BorderLeftStyle (codes "hidden") ≡ Some (keyword Hidden) }
+    ensures border_left_style_dotted { final BorderLeftStyle (codes "dotted") ≡ Some (keyword Dotted) }
+    ensures border_left_style_dashed { final BorderLeftStyle (codes "dashed") ≡ Some (keyword Dashed) }
+    ensures border_left_style_double { final BorderLeftStyle (codes "double") ≡ Some (keyword Double) }
+    ensures border_left_style_groove { final BorderLeftStyle (codes "groove") ≡ Some (keyword Groove) }
+    ensures border_left_style_ridge { final BorderLeftStyle (codes "ridge") ≡ Some (keyword Ridge) }
+    ensures border_left_style_inset { final BorderLeftStyle (codes "inset") ≡ Some (keyword Inset) }
+    ensures border_left_style_outset { final BorderLeftStyle (codes "outset") ≡ Some (keyword Outset) }
 {}
 
 /// Other properties of boxes.

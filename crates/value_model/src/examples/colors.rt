@@ -50,6 +50,9 @@ pub fn no_color()
     ensures seven { color_in (codes "#1234567") ≡ None }
     ensures nine { color_in (codes "#123456789") ≡ None }
     ensures no_digit { color_in (codes "#12g") ≡ None }
+    ensures cyan { color_in (codes "cyan") ≡ None }
+    ensures magenta { color_in (codes "magenta") ≡ None }
+    ensures grey { color_in (codes "grey") ≡ None }
     ensures another_name { color_in (codes "rebeccapurple") ≡ None }
     ensures a_function { color_in (codes "rgb(0,0,0)") ≡ None }
     ensures a_string { color_in (codes "\"red\"") ≡ None }

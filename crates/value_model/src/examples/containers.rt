@@ -32,6 +32,11 @@ pub fn contain()
     ensures contain_not_inline_size_layout_size { is_right Contain (codes "inline-size layout size")
         ≡ false }
     ensures contain_not_layout_layout { is_right Contain (codes "layout layout") ≡ false }
+    ensures contain_not_inline_size_inline_size { is_right Contain (codes "inline-size inline-size")
+        ≡ false }
+    ensures contain_not_paint_paint { is_right Contain (codes "paint paint") ≡ false }
+    ensures contain_strict_2 { final Contain (codes "STRICT")
+        ≡ Some (containment (contained true false true true true)) }
     ensures contain_not_size_size { is_right Contain (codes "size size") ≡ false }
     ensures contain_not_style_paint_style { is_right Contain (codes "style paint style") ≡ false }
     ensures contain_not_none_size { is_right Contain (codes "none size") ≡ false }
@@ -41,7 +46,7 @@ pub fn contain()
     ensures contain_not { is_right Contain (codes "") ≡ false }
 {}
 
-/// `container-type` and `container-name` (CSS Conditional 5, sections 4.1 and 4.2).
+/// `container-type` and `container-name` (CSS Conditional 5, sections 5.1 and 5.2).
 #[tactic(auto, unfolding(css_model::specs::inner::Nesting::levels_of, css_model::specs::inner::Pieces::pieces_after, css_model::specs::inner::Fronts::parts_after))]
 pub fn containers()
     ensures container_type_normal { final ContainerType (codes "normal") ≡ Some (keyword Normal) }

@@ -1,6 +1,6 @@
 //! Lengths and their values (CSS Values 4, sections 5 and 6; CSS Conditional 5, section 7). The font
 //! sizes are 10 and 20 pixels, the viewport 1,000 by 500, the container 300 by 400.
-ghost use Rattle.value_model.specs.inner.Examples.{bases_in, in_length, millionths};
+ghost use Rattle.value_model.specs.inner.Examples.{bases_in, in_length, millionths, uneven_millionths};
 ghost use Rattle.rules_model.specs.Sheets.{components_of};
 ghost use Rattle.value_model.specs.declared.length_unit.LengthBase.TheVariants.{Pixel};
 ghost use Rattle.value_model.specs.Lengths.{dimension, in_percent, in_units, length_in, percentage, unit, unit_set, used_length};
@@ -63,6 +63,11 @@ pub fn no_length()
     ensures a_percentage { millionths (codes "1%") ≡ None }
     ensures zero_percent { millionths (codes "0%") ≡ None }
     ensures an_angle { millionths (codes "1deg") ≡ None }
+    ensures no_small_inline { millionths (codes "1svi") ≡ None }
+    ensures no_small_block { millionths (codes "1svb") ≡ None }
+    ensures no_small_least { millionths (codes "1svmin") ≡ None }
+    ensures no_line_height { millionths (codes "1lh") ≡ None }
+    ensures no_capital { millionths (codes "1cap") ≡ None }
     ensures a_longer_unit { millionths (codes "1pxx") ≡ None }
     ensures a_word { millionths (codes "px") ≡ None }
     ensures a_block { millionths (codes "(1px)") ≡ None }
@@ -80,6 +85,7 @@ pub fn computed()
     ensures clamped { in_length (codes "16777217px") ≡ Some (in_units (pos 1073741824)) }
     ensures clamped_below { in_length (codes "-1e9px") ≡ Some (in_units (neg_ℤ (pos 1073741824))) }
     ensures percent { in_length (codes "12.5%") ≡ Some (in_percent (pos 12500000)) }
+    ensures fine_percent { in_length (codes "33.333333%") ≡ Some (in_percent (pos 33333333)) }
     ensures negative_percent { in_length (codes "-1%") ≡ Some (in_percent (neg_ℤ (pos 1000000))) }
     ensures number { in_length (codes "1") ≡ None }
 {}
@@ -122,4 +128,19 @@ pub fn alone()
     ensures with_percent { length_in true (components_of (codes "1%")) ≡ Some (percentage (pos 1000000)) }
     ensures zero { length_in true (components_of (codes "0")) ≡ Some (dimension (pos 0) (unit Pixel 1 1)) }
     ensures nothing { length_in true (components_of (codes "")) ≡ None }
+{}
+
+/// One quotient of bases that divide unevenly.
+#[tactic(auto, unfolding(css_model::specs::inner::Nesting::levels_of, css_model::specs::inner::Pieces::pieces_after, css_model::specs::inner::Fronts::parts_after))]
+pub fn one_quotient()
+    ensures ex { uneven_millionths (codes "1ex") ≡ Some (pos 5007812) }
+    ensures vw { uneven_millionths (codes "1vw") ≡ Some (pos 5000156) }
+    ensures minus_vw { uneven_millionths (codes "-1vw") ≡ Some (neg_ℤ (pos 5000156)) }
+    ensures vh { uneven_millionths (codes "1vh") ≡ Some (pos 10000468) }
+    ensures vmin { uneven_millionths (codes "1vmin") ≡ Some (pos 5000156) }
+    ensures vmax { uneven_millionths (codes "1vmax") ≡ Some (pos 10000468) }
+    ensures cqw { uneven_millionths (codes "1cqw") ≡ Some (pos 4000468) }
+    ensures cqh { uneven_millionths (codes "1cqh") ≡ Some (pos 3000156) }
+    ensures cqmin { uneven_millionths (codes "1cqmin") ≡ Some (pos 3000156) }
+    ensures cqmax { uneven_millionths (codes "1cqmax") ≡ Some (pos 4000468) }
 {}

@@ -1,7 +1,8 @@
 //! Shorthands, and the declarations that each stands for.
-ghost use Rattle.std.specs.Prelude.{◌≡◌, None, Some, codes, neg_ℤ, pos, ◌∷◌, []};
+ghost use Rattle.std.specs.Prelude.{map, ◌≡◌, None, Some, codes, neg_ℤ, pos, ◌∷◌, []};
 ghost use Rattle.value_model.specs.Colors.{rgba};
 ghost use Rattle.value_model.specs.Lengths.{in_units};
+ghost use Rattle.value_model.specs.Properties.{properties};
 ghost use Rattle.value_model.specs.Values.{color, keyword, length, names, wide_keyword};
 ghost use Rattle.value_model.specs.declared.color.Color.TheVariants.{CurrentColor, Rgba};
 ghost use Rattle.value_model.specs.declared.keyword.Keyword.TheVariants.{Auto, Dotted, Hidden, InlineSize, None as NoneKeyword, Normal, Size, Solid};
@@ -100,7 +101,7 @@ pub fn borders()
     ensures border_not { finals (codes "border") (codes "") ≡ None }
 {}
 
-/// `background`, and `container` (CSS Conditional 5, section 4.3).
+/// `background`, and `container` (CSS Conditional 5, section 5.3).
 #[tactic(auto, unfolding(css_model::specs::inner::Nesting::levels_of, css_model::specs::inner::Pieces::pieces_after, css_model::specs::inner::Fronts::parts_after))]
 pub fn others()
     ensures background_red { finals (codes "background") (codes "red")
@@ -130,6 +131,8 @@ pub fn others()
     ensures container_not_a_slash_inherit { finals (codes "container") (codes "a / inherit") ≡ None }
     ensures container_not_a_inherit { finals (codes "container") (codes "a inherit") ≡ None }
     ensures container_not_a_none { finals (codes "container") (codes "a none") ≡ None }
+    ensures container_not_none_a_slash_size { finals (codes "container") (codes "none a / size")
+        ≡ None }
     ensures container_not { finals (codes "container") (codes "") ≡ None }
 {}
 
@@ -146,6 +149,20 @@ pub fn wide_keywords()
         ≡ Some ((BorderLeftWidth, wide_keyword Initial) ∷ (BorderLeftStyle, wide_keyword Initial) ∷ (BorderLeftColor, wide_keyword Initial) ∷ []) }
     ensures padding_block_initial { declarations (codes "padding-block") (codes "INITIAL")
         ≡ Some ((PaddingTop, wide_keyword Initial) ∷ (PaddingBottom, wide_keyword Initial) ∷ []) }
+    ensures border_unset { declarations (codes "border") (codes "unset")
+        ≡ Some ((BorderTopWidth, wide_keyword Unset) ∷ (BorderTopStyle, wide_keyword Unset) ∷ (BorderTopColor, wide_keyword Unset) ∷ (BorderRightWidth, wide_keyword Unset) ∷ (BorderRightStyle, wide_keyword Unset) ∷ (BorderRightColor, wide_keyword Unset) ∷ (BorderBottomWidth, wide_keyword Unset) ∷ (BorderBottomStyle, wide_keyword Unset) ∷ (BorderBottomColor, wide_keyword Unset) ∷ (BorderLeftWidth, wide_keyword Unset) ∷ (BorderLeftStyle, wide_keyword Unset) ∷ (BorderLeftColor, wide_keyword Unset) ∷ []) }
+    ensures border_width_inherit { declarations (codes "border-width") (codes "inherit")
+        ≡ Some ((BorderTopWidth, wide_keyword Inherit) ∷ (BorderRightWidth, wide_keyword Inherit) ∷ (BorderBottomWidth, wide_keyword Inherit) ∷ (BorderLeftWidth, wide_keyword Inherit) ∷ []) }
+    ensures border_style_inherit { declarations (codes "border-style") (codes "inherit")
+        ≡ Some ((BorderTopStyle, wide_keyword Inherit) ∷ (BorderRightStyle, wide_keyword Inherit) ∷ (BorderBottomStyle, wide_keyword Inherit) ∷ (BorderLeftStyle, wide_keyword Inherit) ∷ []) }
+    ensures border_color_inherit { declarations (codes "border-color") (codes "inherit")
+        ≡ Some ((BorderTopColor, wide_keyword Inherit) ∷ (BorderRightColor, wide_keyword Inherit) ∷ (BorderBottomColor, wide_keyword Inherit) ∷ (BorderLeftColor, wide_keyword Inherit) ∷ []) }
+    ensures padding_revert { declarations (codes "padding") (codes "revert")
+        ≡ Some ((PaddingTop, wide_keyword Revert) ∷ (PaddingRight, wide_keyword Revert) ∷ (PaddingBottom, wide_keyword Revert) ∷ (PaddingLeft, wide_keyword Revert) ∷ []) }
+    ensures margin_inline_unset { declarations (codes "margin-inline") (codes "unset")
+        ≡ Some ((MarginLeft, wide_keyword Unset) ∷ (MarginRight, wide_keyword Unset) ∷ []) }
+    ensures all_revert { declarations (codes "all") (codes "revert")
+        ≡ Some (map (λ p. (p, wide_keyword Revert)) properties) }
     ensures margin_not_inherit_inherit { finals (codes "margin") (codes "inherit inherit") ≡ None }
     ensures all_not_red { finals (codes "all") (codes "red") ≡ None }
     ensures all_not_0 { finals (codes "all") (codes "0") ≡ None }

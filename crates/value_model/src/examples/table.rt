@@ -1,5 +1,5 @@
 //! The table of properties.
-ghost use Rattle.std.specs.Prelude.{length, ◌≡◌, None, Some, codes, pos, ◌∷◌, []};
+ghost use Rattle.std.specs.Prelude.{length, map, ◌≡◌, None, Some, codes, pos, ◌∷◌, []};
 ghost use Rattle.value_model.specs.Colors.{rgba};
 ghost use Rattle.value_model.specs.Forms.{nothing_contained};
 ghost use Rattle.value_model.specs.Values.{alpha, color, containment, integer, keyword, names};
@@ -7,7 +7,7 @@ ghost use Rattle.value_model.specs.declared.color.Color.TheVariants.{CurrentColo
 ghost use Rattle.value_model.specs.declared.keyword.Keyword.TheVariants.{Auto, ContentBox, Inline, Left, None as NoneKeyword, Normal, Visible};
 ghost use Rattle.value_model.specs.declared.prop.Prop.TheVariants.{BackgroundColor, BorderBottomColor, BorderBottomStyle, BorderBottomWidth, BorderLeftColor, BorderLeftStyle, BorderLeftWidth, BorderRightColor, BorderRightStyle, BorderRightWidth, BorderTopColor, BorderTopStyle, BorderTopWidth, BoxSizing, Color, Contain, ContainerName, ContainerType, Display, FontSize, FontStyle, FontWeight, Height, LineHeight, MarginBottom, MarginLeft, MarginRight, MarginTop, MaxHeight, MaxWidth, MinHeight, MinWidth, Opacity, Overflow, PaddingBottom, PaddingLeft, PaddingRight, PaddingTop, PointerEvents, TextAlign, TextDecorationLine, Visibility, WhiteSpace, Width, ZIndex};
 ghost use Rattle.value_model.specs.Grammar.{property_of_name};
-ghost use Rattle.value_model.specs.Properties.{properties};
+ghost use Rattle.value_model.specs.Properties.{prop_place, properties, property};
 ghost use Rattle.value_model.specs.inner.Examples.{inherited_properties, initial_value, units};
 
 /// The names of properties, in any case.
@@ -146,4 +146,27 @@ pub fn inheritance()
     ensures inherited { inherited_properties
         ≡ FontSize ∷ LineHeight ∷ Color ∷ TextAlign ∷ WhiteSpace ∷ Visibility ∷ FontStyle ∷ FontWeight ∷ PointerEvents ∷ [] }
     ensures all { length properties ≡ 45 }
+{}
+
+/// The properties in their order, and the place of each.
+pub fn order()
+    ensures names { map (λ p. (property p).name) properties
+        ≡ codes "display" ∷ codes "width" ∷ codes "height" ∷ codes "min-width" ∷
+        codes "min-height" ∷ codes "max-width" ∷ codes "max-height" ∷ codes "margin-top" ∷
+        codes "margin-right" ∷ codes "margin-bottom" ∷ codes "margin-left" ∷
+        codes "padding-top" ∷ codes "padding-right" ∷ codes "padding-bottom" ∷
+        codes "padding-left" ∷ codes "border-top-width" ∷ codes "border-right-width" ∷
+        codes "border-bottom-width" ∷ codes "border-left-width" ∷ codes "border-top-style" ∷
+        codes "border-right-style" ∷ codes "border-bottom-style" ∷ codes "border-left-style" ∷
+        codes "border-top-color" ∷ codes "border-right-color" ∷ codes "border-bottom-color" ∷
+        codes "border-left-color" ∷ codes "box-sizing" ∷ codes "font-size" ∷
+        codes "line-height" ∷ codes "color" ∷ codes "background-color" ∷ codes "text-align" ∷
+        codes "white-space" ∷ codes "overflow" ∷ codes "contain" ∷ codes "container-type" ∷
+        codes "container-name" ∷ codes "visibility" ∷ codes "opacity" ∷ codes "font-style" ∷
+        codes "font-weight" ∷ codes "z-index" ∷ codes "text-decoration-line" ∷
+        codes "pointer-events" ∷ [] }
+    ensures places { map prop_place properties
+        ≡ 0 ∷ 1 ∷ 2 ∷ 3 ∷ 4 ∷ 5 ∷ 6 ∷ 7 ∷ 8 ∷ 9 ∷ 10 ∷ 11 ∷ 12 ∷ 13 ∷ 14 ∷ 15 ∷ 16 ∷ 17 ∷ 18 ∷
+        19 ∷ 20 ∷ 21 ∷ 22 ∷ 23 ∷ 24 ∷ 25 ∷ 26 ∷ 27 ∷ 28 ∷ 29 ∷ 30 ∷ 31 ∷ 32 ∷ 33 ∷ 34 ∷ 35 ∷
+        36 ∷ 37 ∷ 38 ∷ 39 ∷ 40 ∷ 41 ∷ 42 ∷ 43 ∷ 44 ∷ [] }
 {}

@@ -1,5 +1,6 @@
--- Styles, and what a property without a value of its own gets (CSS Cascade 4, sections 4.3, 4.4 and 7).
-use Rattle.std.specs.Prelude.{ℤ, pos, if◌then◌else◌, List, filter, get_or, Option, Some, None, Bool, true, false}
+-- What a property gets: the value that wins, or what is inherited or initial (CSS Cascade 4, sections 4.3,
+-- 4.4 and 7).
+use Rattle.std.specs.Prelude.{ℤ, pos, if◌then◌else◌, List, filter, get_or, Option, Some, None, option_map, Bool, true, false}
 use Rattle.value_model.specs.declared.color.Color.{Color}
 use Rattle.value_model.specs.declared.color.Color.TheVariants.{CurrentColor}
 use Rattle.value_model.specs.declared.keyword.Keyword.TheVariants.{Block, Inline, InlineBlock, Hidden, None as NoneKeyword}
@@ -24,6 +25,27 @@ Style = List Final
 abbrev pub value_in : Style → Prop → Final
 value_in style p = get_or style (prop_place p) (property p).initial
 
+-- ---- the values that win
+
+abbrev pub is_of_user_agent : Origin → Bool
+is_of_user_agent UserAgent = true
+is_of_user_agent Author = false
+
+-- the declarations of the user agent alone
+abbrev pub without_author : List Applied → List Applied
+without_author ds = filter (λ d. is_of_user_agent d.origin) ds
+
+-- for each property the value that wins, and the one that wins among those of the user agent
+pub record Winners : Type 0 where
+  pub of_all : Prop → Option Value
+  pub of_user_agent : Prop → Option Value
+
+abbrev pub winners_of : List Applied → Winners
+winners_of ds = record {
+  of_all = λ p. option_map (λ d. d.value) (winner p ds);
+  of_user_agent = λ p. option_map (λ d. d.value) (winner p (without_author ds));
+}
+
 -- ---- defaulting (section 7)
 
 -- what is inherited: the value of the parent, or the initial one for the root
@@ -46,7 +68,7 @@ keyword_choice parent p Initial = ready (property p).initial
 keyword_choice parent p Unset = ready (unset_value parent p)
 keyword_choice parent p Revert = ready (unset_value parent p)
 
--- `currentcolor` for `color` is `inherit` (CSS Color 4, section 6.2)
+-- `currentcolor` for `color` is `inherit` (CSS Color 4, section 6.4)
 abbrev pub color_choice : Option Style → Prop → Color → Chosen
 color_choice parent p CurrentColor =
     if is_same_prop p ColorProp then ready (inherited_value parent p) else declared (color_value CurrentColor)
@@ -57,32 +79,20 @@ choice_of_value parent p (wide_keyword w) = keyword_choice parent p w
 choice_of_value parent p (color_value c) = color_choice parent p c
 choice_of_value parent p v = declared v
 
--- what the winner gives; a property without one is unset
-abbrev pub choice_of : Option Style → Prop → Option Applied → Chosen
+-- what a value that wins gives; a property without one is unset
+abbrev pub choice_of : Option Style → Prop → Option Value → Chosen
 choice_of parent p None = ready (unset_value parent p)
-choice_of parent p (Some d) = choice_of_value parent p d.value
+choice_of parent p (Some v) = choice_of_value parent p v
 
-abbrev pub is_revert : Value → Bool
-is_revert (wide_keyword Revert) = true
+abbrev pub is_revert : Option Value → Bool
+is_revert (Some (wide_keyword Revert)) = true
 is_revert v = false
 
-abbrev pub is_reverted : Option Applied → Bool
-is_reverted None = false
-is_reverted (Some d) = is_revert d.value
-
-abbrev pub is_of_user_agent : Origin → Bool
-is_of_user_agent UserAgent = true
-is_of_user_agent Author = false
-
--- the declarations of the user agent alone
-abbrev pub without_author : List Applied → List Applied
-without_author ds = filter (λ d. is_of_user_agent d.origin) ds
-
--- the choice for a property: that of its winner, or for `revert` that of the winner of the user agent
-abbrev pub choice : Option Style → List Applied → Prop → Chosen
-choice parent ds p =
-    if is_reverted (winner p ds) then choice_of parent p (winner p (without_author ds))
-    else choice_of parent p (winner p ds)
+-- the choice for a property: by the value that wins, or for `revert` by the one that wins among those of
+-- the user agent
+abbrev pub choice : Option Style → Winners → Prop → Chosen
+choice parent w p =
+    if is_revert (w.of_all p) then choice_of parent p (w.of_user_agent p) else choice_of parent p (w.of_all p)
 
 -- ---- computed values (section 4.4)
 
@@ -91,8 +101,8 @@ computed_choice b parent_font p (ready v) = v
 computed_choice b parent_font p (declared v) = computed p v b parent_font
 
 -- a property of an element: what lengths refer to, and the font size of the parent
-abbrev pub value_of_property : List Applied → Option Style → Bases → ℤ → Prop → Final
-value_of_property ds parent b parent_font p = computed_choice b parent_font p (choice parent ds p)
+abbrev pub value_of_property : Winners → Option Style → Bases → ℤ → Prop → Final
+value_of_property w parent b parent_font p = computed_choice b parent_font p (choice parent w p)
 
 -- ---- the rest of the style
 

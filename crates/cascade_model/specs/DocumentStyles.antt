@@ -1,24 +1,31 @@
 -- The styles of the elements of a document.
-use Rattle.std.specs.Prelude.{ℕ, ℤ, pos, ◌≡◌, ◌*ℤ◌, List, [], codes, Option, Some, None, option_map, unwrap_or}
+use Rattle.std.specs.Prelude.{ℕ, ℤ, pos, ◌≡◌, ◌*ℤ◌, List, [], codes, map, Option, Some, None, option_map, unwrap_or}
 use Rattle.units64.specs.declared.constants.TheConstants.{UNITS_PER_PIXEL}
 use Rattle.page_model.specs.declared.viewport.Viewport.{Viewport}
 use Rattle.page_model.specs.Document.{Node, element, text, Nodes, no_nodes, node, value_at}
 use Rattle.rules_model.specs.Sheets.{style_attr_of}
 use Rattle.value_model.specs.declared.length_unit.Bases.{Bases}
-use Rattle.cascade_model.specs.Applied.{Applied, applied_of, matched_rules}
+use Rattle.conditions_model.specs.declared.tri.Tri.{Tri}
+use Rattle.conditions_model.specs.declared.tri.Tri.TheVariants.{Yes}
+use Rattle.cascade_model.specs.Applied.{Applied, MatchedRule, applied_of, matched_rules}
 use Rattle.cascade_model.specs.Books.{BookRule}
 use Rattle.cascade_model.specs.Kept.{Kept, kept_declarations}
 use Rattle.cascade_model.specs.StyleEquation.{style_of}
-use Rattle.cascade_model.specs.Styles.{Style, font_size_in}
+use Rattle.cascade_model.specs.Defaulting.{Style, font_size_in, winners_of}
 
 -- the declarations of the `style` attribute of an element
 abbrev pub inline_declarations : Node → ℕ → List Kept
 inline_declarations root i =
     unwrap_or (option_map (λ text. kept_declarations (style_attr_of text)) (value_at (codes "style") i root)) []
 
+-- the answers to the conditions of rules: each is Yes, as no conditions are read yet
+abbrev pub answers_to : List MatchedRule → List Tri
+answers_to matched = map (λ m. Yes) matched
+
 -- the declarations that apply to an element
 abbrev pub applied_to : List BookRule → Node → ℕ → List Applied
-applied_to book root i = applied_of (matched_rules root i book) (inline_declarations root i)
+applied_to book root i =
+    applied_of (matched_rules root i book) (answers_to (matched_rules root i book)) (inline_declarations root i)
 
 -- the initial font size, in units
 abbrev pub initial_font_size : ℤ
@@ -48,18 +55,22 @@ Styles = ℕ → Option Style
 -- the style of an element below this parent, or of the root
 abbrev pub element_style : Page → Option Style → (em rem : ℤ) → ℕ → Style
 element_style page parent em rem i = style_of (record {
-  declarations = applied_to page.book page.root i;
+  winners = winners_of (applied_to page.book page.root i);
   parent = parent;
   bases = bases_in page.viewport em rem;
 })
+
+-- the style of an element whose parent has this style, where the root has this font size
+abbrev pub child_style : Page → Style → ℤ → ℕ → Style
+child_style page parent rem i = element_style page (Some parent) (font_size_in parent) rem i
 
 -- the elements of a tree have the styles of the cascade, where the parent has this one and the root this
 -- font size
 abbrev mutual
   pub AreStyledBelow : Page → Style → ℤ → Styles → Node → Type 0
   AreStyledBelow page parent rem styles (element i name attributes children) =
-      (styles i ≡ Some (element_style page (Some parent) (font_size_in parent) rem i))
-      × AllStyledBelow page (element_style page (Some parent) (font_size_in parent) rem i) rem styles children
+      (styles i ≡ Some (child_style page parent rem i))
+      × AllStyledBelow page (child_style page parent rem i) rem styles children
   AreStyledBelow page parent rem styles (text i cs) = styles i ≡ None
 
   pub AllStyledBelow : Page → Style → ℤ → Styles → Nodes → Type 0
