@@ -1,3 +1,4 @@
 pub mod Strength
 pub mod Winning
 pub mod Values
+pub mod Later

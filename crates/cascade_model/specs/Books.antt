@@ -1,8 +1,8 @@
 -- All rules that there are for a page: those of the user agent, and then those of each sheet.
-use Rattle.std.specs.Prelude.{List, [], ◌∷◌, ◌++◌, Option, Some, None, option_map}
+use Rattle.std.specs.Prelude.{List, [], ◌∷◌, ◌++◌, map, Option, Some, None, option_map}
 use Rattle.std.specs.Str.{chars}
 use Rattle.css_model.specs.Classes.{Text}
-use Rattle.rules_model.specs.Rules.{Condition, StyleRule}
+use Rattle.rules_model.specs.Rules.{StyleRule}
 use Rattle.rules_model.specs.Sheets.{style_rules_of}
 use Rattle.selectors_model.specs.Grammar.{selector_list_of}
 use Rattle.selectors_model.specs.Selectors.{SelectorList}
@@ -15,15 +15,12 @@ use Rattle.cascade_model.specs.Kept.{Kept, kept_declarations}
 pub record BookRule : Type 0 where
   pub origin : Origin
   pub selectors : SelectorList
-  -- the conditions of the blocks around it, the outermost first
-  pub conditions : List Condition
   pub declarations : List Kept
 
 abbrev pub rule_with : Origin → StyleRule → SelectorList → BookRule
 rule_with origin r selectors = record {
   origin = origin;
   selectors = selectors;
-  conditions = r.conditions;
   declarations = kept_declarations r.declarations;
 }
 
@@ -39,13 +36,17 @@ book_rules origin [] = []
 book_rules origin (r ∷ rules) =
     in_front_if (option_map (rule_with origin r) (selector_list_of r.prelude)) (book_rules origin rules)
 
-abbrev pub author_rules : List Text → List BookRule
+abbrev pub author_rules : List (List StyleRule) → List BookRule
 author_rules [] = []
-author_rules (sheet ∷ sheets) = book_rules Author (style_rules_of sheet) ++ author_rules sheets
+author_rules (sheet ∷ sheets) = book_rules Author sheet ++ author_rules sheets
 
 abbrev pub user_agent_rules : List BookRule
 user_agent_rules = book_rules UserAgent (style_rules_of (chars USER_AGENT_SHEET.now))
 
--- the rule book of these sheets
-abbrev pub book_of : List Text → List BookRule
+-- the rule book of sheets, each as its rules
+abbrev pub book_of : List (List StyleRule) → List BookRule
 book_of sheets = user_agent_rules ++ author_rules sheets
+
+-- the same of their texts
+abbrev pub book_of_texts : List Text → List BookRule
+book_of_texts sheets = book_of (map style_rules_of sheets)

@@ -1,5 +1,5 @@
 -- Words of the examples: styles of elements in small documents with small sheets.
-use Rattle.std.specs.Prelude.{ℕ, pos, List, [], ◌∷◌, ◌++◌}
+use Rattle.std.specs.Prelude.{ℕ, pos, List, [], ◌∷◌, ◌++◌, map}
 use Rattle.css_model.specs.Classes.{Text}
 use Rattle.page_model.specs.Document.{Node, element, no_nodes, node}
 use Rattle.rules_model.specs.Sheets.{style_rules_of}
@@ -26,7 +26,7 @@ parent i name attributes child = element i name attributes (node child no_nodes)
 -- a page of a viewport of 800 by 600 pixels, with a sheet of the user agent and some of the author
 abbrev pub page_with_sheets : Text → List Text → Node → Page
 page_with_sheets user_agent authors root = record {
-  book = book_rules UserAgent (style_rules_of user_agent) ++ author_rules authors;
+  book = book_rules UserAgent (style_rules_of user_agent) ++ author_rules (map style_rules_of authors);
   viewport = record { width = 800; height = 600 };
   root = root;
 }
