@@ -1,6 +1,7 @@
 //! Selectors: read from component values, matched against elements.
 #![tactic(auto)]
 
+mod reading;
 mod rules;
 mod selector;
 

@@ -1,0 +1,4 @@
+-- What only private functions cite.
+pub mod Words
+pub mod Atoms
+pub mod Drafts

@@ -1,0 +1,56 @@
+-- What was read of a selector list, and what the atoms after that make of it.
+use Rattle.std.specs.Prelude.{◌≡◌, ◌&&◌, if◌then◌else◌, List, [], ◌∷◌, ◌++◌, map, Option, Some, None, option_map, option_and_then, Bool, true, false}
+use Rattle.selectors_model.specs.declared.combinator.Combinator.{Combinator}
+use Rattle.selectors_model.specs.Grammar.{Atom, white, dot, colon, in_front, subclasses_of, compound_of, with_descendants, chain_of, followed_by, between_commas, compound_has_pseudo_element}
+use Rattle.selectors_model.specs.Selectors as model
+use Rattle.selectors.specs.Views.{simple_view, selector_view}
+use Rattle.selectors.specs.declared.reading.compounds.Next.{Next}
+use Rattle.selectors.specs.declared.reading.compounds.Next.TheVariants as next
+use Rattle.selectors.specs.declared.reading.compounds.Step.{Step}
+use Rattle.selectors.specs.declared.reading.compounds.CompoundDraft.{CompoundDraft}
+
+-- ---- compounds
+
+abbrev pub nothing_after : List Atom → Option model.Compound
+nothing_after [] = Some model.no_simples
+nothing_after (a ∷ atoms) = None
+
+-- the rest of a compound
+abbrev pub rest_of : Next → List Atom → Option model.Compound
+rest_of next.Any atoms = compound_of atoms
+rest_of next.Subclass atoms = subclasses_of atoms
+rest_of next.ClassName atoms = subclasses_of (dot ∷ atoms)
+rest_of next.Pseudo atoms = subclasses_of (colon ∷ atoms)
+rest_of next.PseudoElement atoms = subclasses_of (colon ∷ colon ∷ atoms)
+rest_of next.Nothing atoms = nothing_after atoms
+rest_of next.Invalid atoms = None
+
+-- a simple selector in front, if there is one
+abbrev pub with_simple : Option model.Simple → Option model.Compound → Option model.Compound
+with_simple None c = c
+with_simple (Some s) c = in_front (Some s) c
+
+-- what an atom adds to a compound, and what is next
+abbrev pub IsStep : Next → Atom → Step → Type 0
+IsStep next a step =
+    (atoms : List Atom) →
+    rest_of next (a ∷ atoms) ≡ with_simple (option_map simple_view step.simple) (rest_of step.next atoms)
+
+-- the compound, if it may stand there: in a function no pseudo-element may
+abbrev pub permitted : Bool → Option model.Compound → Option model.Compound
+permitted in_function c =
+    option_and_then (λ d. if compound_has_pseudo_element d && in_function then None else Some d) c
+
+abbrev pub all_in_front : List model.Simple → Option model.Compound → Option model.Compound
+all_in_front [] c = c
+all_in_front (s ∷ simples) c = in_front (Some s) (all_in_front simples c)
+
+-- the compound of a draft and the atoms after it
+abbrev pub compound_after : Bool → CompoundDraft → List Atom → Option model.Compound
+compound_after in_function d atoms =
+    all_in_front (map simple_view d.simples) (permitted in_function (rest_of d.next atoms))
+
+-- one more atom was taken into the draft
+abbrev pub TakesPart : Bool → CompoundDraft → Atom → CompoundDraft → Type 0
+TakesPart in_function old a new =
+    (atoms : List Atom) → compound_after in_function new atoms ≡ compound_after in_function old (a ∷ atoms)
