@@ -1,9 +1,8 @@
 -- What was read of a selector list, and what the atoms after that make of it.
-use Rattle.std.specs.Prelude.{◌≡◌, ◌&&◌, if◌then◌else◌, List, [], ◌∷◌, ◌++◌, map, Option, Some, None, option_map, option_and_then, Bool, true, false}
-use Rattle.selectors_model.specs.declared.combinator.Combinator.{Combinator}
-use Rattle.selectors_model.specs.Grammar.{Atom, white, dot, colon, in_front, subclasses_of, compound_of, with_descendants, chain_of, followed_by, between_commas, compound_has_pseudo_element}
+use Rattle.std.specs.Prelude.{◌≡◌, ◌&&◌, if◌then◌else◌, List, [], ◌∷◌, map, Option, Some, None, option_map, option_and_then, Bool}
+use Rattle.selectors_model.specs.Grammar.{Atom, dot, colon, in_front, subclasses_of, last_pseudo_element, compound_of, compound_has_pseudo_element}
 use Rattle.selectors_model.specs.Selectors as model
-use Rattle.selectors.specs.Views.{simple_view, selector_view}
+use Rattle.selectors.specs.Views.{simple_view}
 use Rattle.selectors.specs.declared.reading.compounds.Next.{Next}
 use Rattle.selectors.specs.declared.reading.compounds.Next.TheVariants as next
 use Rattle.selectors.specs.declared.reading.compounds.Step.{Step}
@@ -36,6 +35,19 @@ IsStep next a step =
     (atoms : List Atom) →
     rest_of next (a ∷ atoms) ≡ with_simple (option_map simple_view step.simple) (rest_of step.next atoms)
 
+-- it ends this simple selector, if there is one, after which others may be
+abbrev pub EndsSimple : Option model.Simple → Step → Type 0
+EndsSimple s step =
+    (atoms : List Atom) →
+    in_front s (subclasses_of atoms) ≡ with_simple (option_map simple_view step.simple) (rest_of step.next atoms)
+
+-- it ends a pseudo-element, if that is known, after which nothing may be
+abbrev pub EndsCompound : Bool → Step → Type 0
+EndsCompound is_known step =
+    (atoms : List Atom) →
+    last_pseudo_element is_known atoms
+    ≡ with_simple (option_map simple_view step.simple) (rest_of step.next atoms)
+
 -- the compound, if it may stand there: in a function no pseudo-element may
 abbrev pub permitted : Bool → Option model.Compound → Option model.Compound
 permitted in_function c =
@@ -54,3 +66,9 @@ compound_after in_function d atoms =
 abbrev pub TakesPart : Bool → CompoundDraft → Atom → CompoundDraft → Type 0
 TakesPart in_function old a new =
     (atoms : List Atom) → compound_after in_function new atoms ≡ compound_after in_function old (a ∷ atoms)
+
+-- a simple selector was added to the draft
+abbrev pub Adds : Bool → CompoundDraft → model.Simple → Next → CompoundDraft → Type 0
+Adds in_function old s next new =
+    (atoms : List Atom) → compound_after in_function new atoms
+    ≡ all_in_front (map simple_view old.simples) (permitted in_function (in_front (Some s) (rest_of next atoms)))
