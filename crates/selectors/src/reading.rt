@@ -1,6 +1,7 @@
 //! Selector lists, read from component values (Selectors 4, sections 3.9, 4 and 18).
 
 mod atoms;
+mod complex;
 mod compounds;
 mod pseudo_names;
 mod words;

@@ -1,12 +1,16 @@
 -- What was read of a selector list, and what the atoms after that make of it.
 use Rattle.std.specs.Prelude.{◌≡◌, ◌&&◌, if◌then◌else◌, List, [], ◌∷◌, map, Option, Some, None, option_map, option_and_then, Bool}
-use Rattle.selectors_model.specs.Grammar.{Atom, dot, colon, in_front, subclasses_of, last_pseudo_element, compound_of, compound_has_pseudo_element}
+use Rattle.selectors_model.specs.declared.combinator.Combinator.{Combinator}
+use Rattle.selectors_model.specs.Grammar.{Atom, dot, colon, in_front, subclasses_of, last_pseudo_element, compound_of, compound_has_pseudo_element, Chain, chain_of, followed_by}
 use Rattle.selectors_model.specs.Selectors as model
-use Rattle.selectors.specs.Views.{simple_view}
+use Rattle.selectors.specs.Views.{simple_view, selector_view}
 use Rattle.selectors.specs.declared.reading.compounds.Next.{Next}
 use Rattle.selectors.specs.declared.reading.compounds.Next.TheVariants as next
 use Rattle.selectors.specs.declared.reading.compounds.Step.{Step}
 use Rattle.selectors.specs.declared.reading.compounds.CompoundDraft.{CompoundDraft}
+use Rattle.selectors.specs.declared.reading.complex.Left.{Left}
+use Rattle.selectors.specs.declared.reading.complex.Left.TheVariants as left
+use Rattle.selectors.specs.declared.reading.complex.SelectorDraft.{SelectorDraft}
 
 -- ---- compounds
 
@@ -72,3 +76,42 @@ abbrev pub Adds : Bool → CompoundDraft → model.Simple → Next → CompoundD
 Adds in_function old s next new =
     (atoms : List Atom) → compound_after in_function new atoms
     ≡ all_in_front (map simple_view old.simples) (permitted in_function (in_front (Some s) (rest_of next atoms)))
+
+-- ---- complex selectors
+
+-- what is on the left of a compound, and the compound
+abbrev pub begun : Left → Option model.Compound → Option model.Selector
+begun left.Nothing c = option_map (λ d. model.compound d) c
+begun (left.Selector s by) c = followed_by (Some (selector_view s)) by c
+begun left.Invalid c = None
+
+-- the selector and the combinator are what is on the left of a compound
+abbrev pub IsLeft : Option model.Selector → Combinator → Left → Type 0
+IsLeft s by left = (c : Option model.Compound) → begun left c ≡ followed_by s by c
+
+-- the selector goes on with combinators, and after each a compound
+abbrev pub goes_on : Bool → Option model.Selector → List (Combinator × List Atom) → Option model.Selector
+goes_on in_function s [] = s
+goes_on in_function s (link ∷ links) =
+    goes_on in_function (followed_by s link.0 (permitted in_function (compound_of link.1))) links
+
+abbrev pub selector_of_parts : SelectorDraft → Chain → Option model.Selector
+selector_of_parts d chain =
+    goes_on d.in_function (begun d.left (compound_after d.in_function d.compound chain.first)) chain.links
+
+-- the selector of a draft and the atoms after it
+abbrev pub selector_after : SelectorDraft → List Atom → Option model.Selector
+selector_after d atoms = selector_of_parts d (chain_of atoms)
+
+-- one more atom was taken into the draft
+pub record TakesAtom (old : SelectorDraft) (a : Atom) (new : SelectorDraft) : Type 0 where
+  pub selector : (atoms : List Atom) → selector_after new atoms ≡ selector_after old (a ∷ atoms)
+  pub place : new.in_function ≡ old.in_function
+
+-- nothing of a selector was read
+abbrev pub no_selector : Bool → SelectorDraft
+no_selector in_function = record {
+  in_function = in_function;
+  left = left.Nothing;
+  compound = record { simples = []; next = next.Any };
+}
