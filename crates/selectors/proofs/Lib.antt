@@ -1,3 +1,4 @@
 pub mod Words
 pub mod Drafts
 pub mod SelectorDrafts
+pub mod ListDrafts

@@ -1,7 +1,6 @@
 -- Drafts of complex selectors.
-use Rattle.std.proofs.Common.{◌≡◌, ◌∙◌, ap, sym, refl, subst, List, [], ◌∷◌, Option, None}
-use Rattle.selectors_model.specs.declared.combinator.Combinator.{Combinator}
-use Rattle.selectors_model.specs.Grammar.{Atom, combinator, chain_of, compound_of, followed_by}
+use Rattle.std.proofs.Common.{◌≡◌, ◌∙◌, ap, sym, refl, List, [], ◌∷◌, Option, None}
+use Rattle.selectors_model.specs.Grammar.{Atom, chain_of}
 use Rattle.selectors_model.specs.Selectors as model
 use Rattle.selectors.specs.declared.reading.atoms.Part.{Part}
 use Rattle.selectors.specs.declared.reading.atoms.Part.TheVariants.{Dot, Colon, Star, Word, Whole, Function, Other}
@@ -10,7 +9,7 @@ use Rattle.selectors.specs.declared.reading.complex.Left.TheVariants as variant
 use Rattle.selectors.specs.declared.reading.complex.SelectorDraft.{SelectorDraft}
 use Rattle.selectors.specs.declared.reading.compounds.CompoundDraft.{CompoundDraft}
 use Rattle.selectors.specs.inner.Atoms.{part_view}
-use Rattle.selectors.specs.inner.Drafts.{TakesPart, TakesAtom, IsLeft, compound_after, begun, goes_on, selector_of_parts, selector_after, no_selector, permitted}
+use Rattle.selectors.specs.inner.Drafts.{TakesPart, TakesAtom, compound_after, begun, goes_on, selector_of_parts, selector_after}
 
 -- a part of a compound goes on with the first one
 chain-part : (p : Part) (atoms : List Atom)
@@ -33,19 +32,6 @@ part-taken d new p takes = record {
       ∙ sym (ap (selector_of_parts d) (chain-part p atoms));
   place = refl;
 }
-
-pub combinator-taken : (d ended : SelectorDraft) (left : Left) (by : Combinator) (s : Option model.Selector)
-    → s ≡ selector_after d [] → ended ≡ no_selector d.in_function → IsLeft s by left
-    → TakesAtom d (combinator by)
-    (record { in_function = ended.in_function; left = left; compound = ended.compound })
-combinator-taken d ended left by s is new on =
-    subst (λ (e : SelectorDraft). TakesAtom d (combinator by)
-    (record { in_function = e.in_function; left = left; compound = e.compound })) (sym new) (record {
-      selector = λ atoms.
-          let right : Option model.Compound = permitted d.in_function (compound_of (chain_of atoms).first) in
-          ap (λ t. goes_on d.in_function t (chain_of atoms).links) (on right ∙ ap (λ t. followed_by t by right) is);
-      place = refl;
-    })
 
 -- nothing is on the right of what is on the left
 pub begun-none : (left : Left) → begun left None ≡ None

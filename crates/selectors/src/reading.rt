@@ -3,5 +3,6 @@
 mod atoms;
 mod complex;
 mod compounds;
+mod lists;
 mod pseudo_names;
 mod words;

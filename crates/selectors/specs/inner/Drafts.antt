@@ -1,13 +1,18 @@
 -- What was read of a selector list, and what the atoms after that make of it.
-use Rattle.std.specs.Prelude.{◌≡◌, ◌&&◌, if◌then◌else◌, List, [], ◌∷◌, map, Option, Some, None, option_map, option_and_then, Bool}
+use Rattle.std.specs.List.{list_all}
+use Rattle.std.specs.Option.{is_some}
+use Rattle.std.specs.Prelude.{◌≡◌, ◌&&◌, if◌then◌else◌, List, [], ◌∷◌, ◌++◌, map, Option, Some, None, option_map, option_and_then, Bool, true, false}
 use Rattle.selectors_model.specs.declared.combinator.Combinator.{Combinator}
-use Rattle.selectors_model.specs.Grammar.{Atom, dot, colon, in_front, subclasses_of, last_pseudo_element, compound_of, compound_has_pseudo_element, Chain, chain_of, followed_by}
+use Rattle.selectors_model.specs.Grammar.{Atom, white, dot, colon, in_front, subclasses_of, last_pseudo_element, compound_of, compound_has_pseudo_element, Chain, chain_of, followed_by, with_descendants, between_commas}
 use Rattle.selectors_model.specs.Selectors as model
 use Rattle.selectors.specs.Views.{simple_view, selector_view}
 use Rattle.selectors.specs.declared.reading.compounds.Next.{Next}
 use Rattle.selectors.specs.declared.reading.compounds.Next.TheVariants as next
 use Rattle.selectors.specs.declared.reading.compounds.Step.{Step}
 use Rattle.selectors.specs.declared.reading.compounds.CompoundDraft.{CompoundDraft}
+use Rattle.selectors.specs.declared.reading.lists.Gap.{Gap}
+use Rattle.selectors.specs.declared.reading.lists.Gap.TheVariants as gap
+use Rattle.selectors.specs.declared.reading.lists.ListDraft.{ListDraft}
 use Rattle.selectors.specs.declared.reading.complex.Left.{Left}
 use Rattle.selectors.specs.declared.reading.complex.Left.TheVariants as left
 use Rattle.selectors.specs.declared.reading.complex.SelectorDraft.{SelectorDraft}
@@ -114,4 +119,65 @@ no_selector in_function = record {
   in_function = in_function;
   left = left.Nothing;
   compound = record { simples = []; next = next.Any };
+}
+
+-- ---- lists
+
+-- what is ahead, where white space was left out and it is known what was before it
+abbrev pub spaced : Gap → List Atom → List Atom
+spaced gap.None atoms = with_descendants false atoms
+spaced gap.Compound atoms = with_descendants true atoms
+spaced gap.White atoms = with_descendants true (white ∷ atoms)
+
+abbrev pub after_white : Gap → Gap
+after_white gap.None = gap.None
+after_white gap.Compound = gap.White
+after_white gap.White = gap.White
+
+-- the members that lists between commas are, of which the first one was begun
+abbrev pub members_from : SelectorDraft → List (List Atom) → List (Option model.Selector)
+members_from d [] = selector_after d [] ∷ []
+members_from d (atoms ∷ lists) =
+    selector_after d atoms ∷ map (selector_after (no_selector d.in_function)) lists
+
+abbrev pub valid_of : List (Option model.Selector) → List model.Selector
+valid_of [] = []
+valid_of (Some s ∷ members) = s ∷ valid_of members
+valid_of (None ∷ members) = valid_of members
+
+abbrev pub are_valid : List (Option model.Selector) → Bool
+are_valid members = list_all is_some members
+
+-- the valid members of a list, and whether all are valid
+pub record Outcome : Type 0 where
+  pub valid : List model.Selector
+  pub are_valid : Bool
+
+-- of the members that a draft has, and of these after them
+abbrev pub outcome : ListDraft → List (Option model.Selector) → Outcome
+outcome d members = record {
+  valid = map selector_view d.members ++ valid_of members;
+  are_valid = d.are_valid && are_valid members;
+}
+
+abbrev pub outcome_after : ListDraft → List Atom → Outcome
+outcome_after d atoms = outcome d (members_from d.selector (between_commas (spaced d.gap atoms)))
+
+-- one more atom was taken into the draft
+abbrev pub TakesInList : ListDraft → Atom → ListDraft → Type 0
+TakesInList old a new = (atoms : List Atom) → outcome_after new atoms ≡ outcome_after old (a ∷ atoms)
+
+-- the selector was ended, and is a member of the draft, if it is one
+pub record EndsMember (old new : ListDraft) : Type 0 where
+  pub selector : new.selector ≡ no_selector old.selector.in_function
+  pub members : (members : List (Option model.Selector)) →
+      outcome new members ≡ outcome old (selector_after old.selector [] ∷ members)
+
+-- no member was read
+abbrev pub no_members : Bool → ListDraft
+no_members in_function = record {
+  members = [];
+  are_valid = true;
+  gap = gap.None;
+  selector = no_selector in_function;
 }
