@@ -2,3 +2,4 @@ pub mod Words
 pub mod Drafts
 pub mod SelectorDrafts
 pub mod ListDrafts
+pub mod Fronts

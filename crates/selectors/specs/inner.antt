@@ -2,3 +2,4 @@
 pub mod Words
 pub mod Atoms
 pub mod Drafts
+pub mod Fronts
