@@ -3,3 +3,4 @@ pub mod Words
 pub mod Atoms
 pub mod Drafts
 pub mod Fronts
+pub mod Numbers

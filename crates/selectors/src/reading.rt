@@ -1,5 +1,6 @@
 //! Selector lists, read from component values (Selectors 4, sections 3.9, 4 and 18).
 
+mod an_plus_b;
 mod atoms;
 mod attributes;
 mod complex;
