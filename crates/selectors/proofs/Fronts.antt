@@ -1,11 +1,9 @@
 -- The token type in front of component values.
-use Rattle.std.proofs.Common.{◌≡◌, ◌∙◌, ap, sym, refl, ◌<◌, ◌≤◌, ◌+◌, ℕ, List, [], ◌∷◌, true, false, length, drop, drop-cons, get_or, add-one, arith}
-use Rattle.std.proofs.lemmas.List.{drop_all}
-use Rattle.css_model.specs.declared.token.TokenType.{TokenType}
+use Rattle.std.proofs.Common.{◌≡◌, refl, ◌<◌, ◌+◌, ℕ, List, ◌∷◌, true, length, drop, drop-cons, get_or, add-one}
 use Rattle.css_tokens.specs.declared.component.Component.{Component}
 use Rattle.css_tokens.specs.Nested.{component_view}
 use Rattle.selectors_model.specs.TokenTypes.{type_of, is_whitespace_type, without_front_whitespace, without_whitespace}
-use Rattle.selectors.specs.inner.Fronts.{types, Begins, IsBlank}
+use Rattle.selectors.specs.inner.Fronts.{types}
 
 types-drop : (cs : List Component) (i : ℕ) (c : Component) → i < length cs → c ≡ get_or cs i c
     → types (drop i cs) ≡ type_of (component_view c) ∷ types (drop (i + 1) cs)

@@ -3,3 +3,5 @@ pub mod Drafts
 pub mod SelectorDrafts
 pub mod ListDrafts
 pub mod Fronts
+pub mod Numbers
+pub mod LowNames

@@ -1,8 +1,6 @@
 -- The token type in front of component values.
 use Rattle.std.specs.Prelude.{◌≡◌, List, [], ◌∷◌, Option, Some, None}
-use Rattle.css_model.specs.declared.token.Number.{Number as NumberValue}
 use Rattle.css_model.specs.declared.token.TokenType.{TokenType}
-use Rattle.css_model.specs.declared.token.TokenType.TheVariants.{Number}
 use Rattle.css_tokens.specs.declared.component.Component.{Component}
 use Rattle.css_tokens.specs.Nested.{components_view}
 use Rattle.selectors_model.specs.TokenTypes.{types_of, without_front_whitespace, without_whitespace}
