@@ -5,3 +5,4 @@ pub mod ListDrafts
 pub mod Fronts
 pub mod Numbers
 pub mod LowNames
+pub mod ReadLists

@@ -1,5 +1,5 @@
 -- Drafts of lists.
-use Rattle.std.proofs.Common.{◌≡◌, ◌∙◌, ap, sym, refl, List, [], ◌∷◌, map, Bool, true, false, inl, inr}
+use Rattle.std.proofs.Common.{append-nil, ◌&&◌, ◌≡◌, ◌∙◌, ap, sym, refl, List, [], ◌∷◌, map, Bool, true, false, inl, inr}
 use Rattle.std.proofs.lemmas.Bool.{cases_Bool}
 use Rattle.selectors_model.specs.declared.combinator.Combinator.{Combinator}
 use Rattle.selectors_model.specs.declared.combinator.Combinator.TheVariants.{Descendant}
@@ -10,8 +10,10 @@ use Rattle.selectors.specs.declared.reading.complex.SelectorDraft.{SelectorDraft
 use Rattle.selectors.specs.declared.reading.lists.Gap.{Gap}
 use Rattle.selectors.specs.declared.reading.lists.Gap.TheVariants as gap
 use Rattle.selectors.specs.declared.reading.lists.ListDraft.{ListDraft}
+use Rattle.selectors.specs.declared.reading.lists.Members.{Members}
+use Rattle.selectors.specs.Views.{list_of_selectors, selector_view, list_view}
 use Rattle.selectors.specs.inner.Atoms.{part_view}
-use Rattle.selectors.specs.inner.Drafts.{TakesAtom, TakesInList, EndsMember, spaced, after_white, members_from, selector_after, no_selector, outcome}
+use Rattle.selectors.specs.inner.Drafts.{TakesAtom, TakesInList, EndsMember, HasOutcome, spaced, after_white, members_from, selector_after, no_selector, outcome, outcome_after}
 
 -- ---- white space
 
@@ -136,3 +138,28 @@ descendant-taken d mid new p is t u = λ atoms.
     ∙ member-taken d.selector mid (combinator Descendant) (part_view p ∷ spaced gap.Compound atoms) refl t)
     ∙ sym (ap (λ l. outcome d (members_from d.selector (between_commas l)))
     (ap (λ g. spaced g (part_view p ∷ atoms)) is ∙ spaced-descendant p atoms))
+
+-- ---- the end of a list
+
+spaced-end : (g : Gap) → spaced g [] ≡ []
+spaced-end gap.None = refl
+spaced-end gap.Compound = refl
+spaced-end gap.White = refl
+
+pub ended-outcome : (d ended : ListDraft) → EndsMember d ended → outcome ended [] ≡ outcome_after d []
+ended-outcome d ended e =
+    e.members [] ∙ sym (ap (λ l. outcome d (members_from d.selector (between_commas l))) (spaced-end d.gap))
+
+and-true : (b : Bool) → (b && true) ≡ b
+and-true true = refl
+and-true false = refl
+
+pub finished : (d ended : ListDraft) (read : Members) → EndsMember d ended
+    → list_view read.list ≡ list_of_selectors (map selector_view ended.members) → read.are_valid ≡ ended.are_valid
+    → HasOutcome read (outcome_after d [])
+finished d ended read e list all =
+    let last : outcome ended [] ≡ outcome_after d [] = ended-outcome d ended e in
+    record {
+      valid = list ∙ (ap list_of_selectors (sym (append-nil (map selector_view ended.members))) ∙ ap (λ o. list_of_selectors o.valid) last);
+      are_valid = all ∙ (sym (and-true ended.are_valid) ∙ ap (λ o. o.are_valid) last);
+    }

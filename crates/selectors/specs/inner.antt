@@ -4,3 +4,4 @@ pub mod Atoms
 pub mod Drafts
 pub mod Fronts
 pub mod Numbers
+pub mod Functions

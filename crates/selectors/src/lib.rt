@@ -5,5 +5,6 @@ mod reading;
 mod rules;
 mod selector;
 
+pub use reading::read_list;
 pub use rules::Rule;
 pub use selector::{Compound, Link, Selector, SelectorList, Simple};

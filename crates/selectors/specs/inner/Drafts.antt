@@ -3,9 +3,9 @@ use Rattle.std.specs.List.{list_all}
 use Rattle.std.specs.Option.{is_some}
 use Rattle.std.specs.Prelude.{◌≡◌, ◌&&◌, if◌then◌else◌, List, [], ◌∷◌, ◌++◌, map, Option, Some, None, option_map, option_and_then, Bool, true, false}
 use Rattle.selectors_model.specs.declared.combinator.Combinator.{Combinator}
-use Rattle.selectors_model.specs.Grammar.{Atom, white, dot, colon, in_front, subclasses_of, last_pseudo_element, compound_of, compound_has_pseudo_element, Chain, chain_of, followed_by, with_descendants, between_commas}
+use Rattle.selectors_model.specs.Grammar.{Atom, white, dot, colon, in_front, subclasses_of, last_pseudo_element, compound_of, compound_has_pseudo_element, Chain, chain_of, followed_by, with_descendants, between_commas, arguments_of, members_of, list_of_valid, list_of_all}
 use Rattle.selectors_model.specs.Selectors as model
-use Rattle.selectors.specs.Views.{simple_view, selector_view}
+use Rattle.selectors.specs.Views.{list_of_selectors, simple_view, selector_view, list_view}
 use Rattle.selectors.specs.declared.reading.compounds.Next.{Next}
 use Rattle.selectors.specs.declared.reading.compounds.Next.TheVariants as next
 use Rattle.selectors.specs.declared.reading.compounds.Step.{Step}
@@ -13,6 +13,7 @@ use Rattle.selectors.specs.declared.reading.compounds.CompoundDraft.{CompoundDra
 use Rattle.selectors.specs.declared.reading.lists.Gap.{Gap}
 use Rattle.selectors.specs.declared.reading.lists.Gap.TheVariants as gap
 use Rattle.selectors.specs.declared.reading.lists.ListDraft.{ListDraft}
+use Rattle.selectors.specs.declared.reading.lists.Members.{Members}
 use Rattle.selectors.specs.declared.reading.complex.Left.{Left}
 use Rattle.selectors.specs.declared.reading.complex.Left.TheVariants as left
 use Rattle.selectors.specs.declared.reading.complex.SelectorDraft.{SelectorDraft}
@@ -181,3 +182,19 @@ no_members in_function = record {
   gap = gap.None;
   selector = no_selector in_function;
 }
+
+-- ---- what is read at last
+
+-- the members of a list, of which those with a pseudo-element are invalid in a function
+abbrev pub members_in : Bool → List Atom → List (Option model.Selector)
+members_in in_function atoms = if in_function then arguments_of atoms else members_of atoms
+
+-- these are the valid members, and whether all are valid
+pub record IsRead (read : Members) (members : List (Option model.Selector)) : Type 0 where
+  pub valid : list_view read.list ≡ list_of_valid members
+  pub all : (if read.are_valid then Some (list_view read.list) else None) ≡ list_of_all members
+
+-- what was read has this outcome
+pub record HasOutcome (read : Members) (o : Outcome) : Type 0 where
+  pub valid : list_view read.list ≡ list_of_selectors o.valid
+  pub are_valid : read.are_valid ≡ o.are_valid

@@ -1,13 +1,13 @@
 //! Selector lists, read part by part (Selectors 4, sections 4.1, 15 and 18).
 ghost use Rattle.selectors.specs.inner.Atoms.{part_view, atom_view};
-ghost use Rattle.selectors.specs.inner.Drafts.{TakesInList, EndsMember, after_white, no_members, outcome_after, selector_after};
-ghost use Rattle.selectors.specs.Views.{selector_view};
+ghost use Rattle.selectors.specs.inner.Drafts.{TakesInList, EndsMember, after_white, no_members, outcome_after, HasOutcome, selector_after};
+ghost use Rattle.selectors.specs.Views.{selector_view, list_view};
 ghost use Rattle.selectors_model.specs.Grammar.{white, comma, combinator};
-ghost use Rattle.std.specs.Prelude.{◌≡◌, [], IfOk, OnOk, map};
+ghost use Rattle.std.specs.Prelude.{◌≡◌, [], IfOk, OnOk, Some, None, map, option_map, if◌then◌else◌};
 
 use super::atoms::{Atom, Part};
 use super::complex::SelectorDraft;
-use crate::selector::Selector;
+use crate::selector::{Selector, SelectorList};
 use port_core::{NoMemory, Seq};
 use selectors_model::Combinator;
 use std::alloc::Global;
@@ -120,6 +120,44 @@ impl ListDraft {
                 self.are_valid = false;
                 Ok(())
             }
+        }
+    }
+
+    /// Ends the list.
+    pub(crate) fn finish(mut self, alloc: Global) -> Result<Members, NoMemory>
+        ensures { IfOk result (λ read. HasOutcome read (outcome_after self [])) }
+    {
+        self.end_member(alloc)?;
+        let ListDraft {
+            members,
+            are_valid,
+            ..
+        } = self;
+        Ok(Members {
+            list: SelectorList { members },
+            are_valid,
+        })
+    }
+}
+
+/// What was read of a selector list.
+#[derive(Drop)]
+pub(crate) struct Members {
+    /// The members that are valid: what a forgiving selector list is.
+    pub(crate) list: SelectorList,
+    /// Whether all members are.
+    pub(crate) are_valid: bool,
+}
+
+impl Members {
+    /// The list of all members, if all are valid.
+    pub(crate) fn all(self) -> Option<SelectorList>
+        ensures { option_map list_view result ≡ if self.are_valid then Some (list_view self.list) else None }
+    {
+        if self.are_valid {
+            Some(self.list)
+        } else {
+            None
         }
     }
 }
