@@ -1,8 +1,8 @@
 pub mod Words
-pub mod Drafts
+pub mod CompoundDrafts
 pub mod SelectorDrafts
 pub mod ListDrafts
 pub mod Fronts
-pub mod Numbers
+pub mod Decimals
 pub mod LowNames
 pub mod ReadLists

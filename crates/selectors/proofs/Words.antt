@@ -2,7 +2,7 @@
 use Rattle.std.proofs.Common.{◌≡◌, ◌∙◌, ap, ap₂, sym, refl, ℕ, ◌<◌, ◌≤◌, ◌&&◌, List, [], ◌∷◌, ◌++◌, map, length, take, drop, get_or, nat_lt, Bool, true, false, arith, inl, inr}
 use Rattle.std.specs.Prelude.{◌↔◌, IsTrue}
 use Rattle.std.proofs.Math.Utf8.{encodes, encode}
-use Rattle.std.proofs.lemmas.Bool.{cases_lt, cases_Bool, false≢true}
+use Rattle.std.proofs.lemmas.Bool.{cases_lt, false≢true}
 use Rattle.std.proofs.lemmas.Bool.Decides.{nat_tests}
 use Rattle.std.specs.Char.{to_ascii_lowercase, eq_ignore_ascii_case}
 use Rattle.std.specs.List.{list_all, starts_with}
@@ -42,12 +42,6 @@ lower-begins (w ∷ ws) (b ∷ bs) l e =
     let more : starts_with eq_ignore_ascii_case bs ws ≡ true = lower-begins ws bs (omega (arith, l)) (ap (drop 1) e) in
     rw (letter-same w b here, more) refl
 
-begins-length : (word bs : List ℕ) → starts_with eq_ignore_ascii_case bs word ≡ true → length word ≤ length bs
-begins-length [] bs e = omega arith
-begins-length (w ∷ ws) [] e = absurd (false≢true e)
-begins-length (w ∷ ws) (b ∷ bs) e =
-    omega (arith, begins-length ws bs (and-right (eq_ignore_ascii_case w b) (starts_with eq_ignore_ascii_case bs ws) e))
-
 both-ways : (a b : Bool) → (a ≡ true → b ≡ true) → (b ≡ true → a ≡ true) → a ≡ b
 both-ways true b f g = sym (f refl)
 both-ways false true f g = g refl
@@ -60,14 +54,6 @@ pub begins-tested : (word bs : List ℕ) (result : Bool) → length word ≤ len
 begins-tested word bs result l test =
     both-ways result (starts_with eq_ignore_ascii_case bs word)
     (λ t. lower-begins word bs l (test.0 t)) (λ t. test.1 (begins-lower word bs t))
-
--- what is shorter than a word does not begin with it
-pub begins-short : (word bs : List ℕ) → length bs < length word → starts_with eq_ignore_ascii_case bs word ≡ false
-begins-short word bs l =
-    elim (cases_Bool (starts_with eq_ignore_ascii_case bs word)) [
-      | inl t ↦ absurd (omega (arith, l, begins-length word bs t))
-      | inr f ↦ f
-    ]
 
 high-letter : (w b : ℕ) → to_ascii_lowercase w < 128 → 128 ≤ b → eq_ignore_ascii_case w b ≡ false
 high-letter w b l h = grind (arith, nat_tests, l, h)

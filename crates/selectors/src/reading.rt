@@ -27,7 +27,8 @@ use std::alloc::Global;
 /// The recursion is as deep as functions nest. Time and memory grow with the number and the length
 /// of the component values; names and values are copied.
 pub fn read_list(alloc: Global, c: &Components) -> Result<Option<SelectorList>, NoMemory>
-    ensures { IfOk result (λ list. option_map list_view list ≡ selector_list_of (components_view c.now)) }
+    ensures { IfOk result (λ list.
+        option_map list_view list ≡ selector_list_of (components_view c.now)) }
 {
     Ok(read_members(alloc, c, false)?.all())
 }

@@ -1,5 +1,7 @@
 -- Which atoms of the definition these are.
-use Rattle.std.specs.Prelude.{option_map}
+use Rattle.std.specs.Prelude.{List, option_map}
+use Rattle.css_tokens.specs.declared.component.Component.{Component}
+use Rattle.css_tokens.specs.Nested.{components_view}
 use Rattle.selectors_model.specs.Grammar as model
 use Rattle.selectors.specs.Views.{simple_view}
 use Rattle.selectors.specs.declared.reading.atoms.Atom.{Atom}
@@ -21,3 +23,7 @@ atom_view atom.White = model.white
 atom_view atom.Comma = model.comma
 atom_view (atom.Combinator by) = model.combinator by
 atom_view (atom.Part p) = part_view p
+
+-- what component values are in a selector
+abbrev pub atoms : List Component → List model.Atom
+atoms cs = model.atoms_of (components_view cs)

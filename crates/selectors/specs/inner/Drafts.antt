@@ -43,13 +43,15 @@ with_simple (Some s) c = in_front (Some s) c
 abbrev pub IsStep : Next → Atom → Step → Type 0
 IsStep next a step =
     (atoms : List Atom) →
-    rest_of next (a ∷ atoms) ≡ with_simple (option_map simple_view step.simple) (rest_of step.next atoms)
+    rest_of next (a ∷ atoms)
+    ≡ with_simple (option_map simple_view step.simple) (rest_of step.next atoms)
 
 -- it ends this simple selector, if there is one, after which others may be
 abbrev pub EndsSimple : Option model.Simple → Step → Type 0
 EndsSimple s step =
     (atoms : List Atom) →
-    in_front s (subclasses_of atoms) ≡ with_simple (option_map simple_view step.simple) (rest_of step.next atoms)
+    in_front s (subclasses_of atoms)
+    ≡ with_simple (option_map simple_view step.simple) (rest_of step.next atoms)
 
 -- it ends a pseudo-element, if that is known, after which nothing may be
 abbrev pub EndsCompound : Bool → Step → Type 0
@@ -75,13 +77,15 @@ compound_after in_function d atoms =
 -- one more atom was taken into the draft
 abbrev pub TakesPart : Bool → CompoundDraft → Atom → CompoundDraft → Type 0
 TakesPart in_function old a new =
-    (atoms : List Atom) → compound_after in_function new atoms ≡ compound_after in_function old (a ∷ atoms)
+    (atoms : List Atom) →
+    compound_after in_function new atoms ≡ compound_after in_function old (a ∷ atoms)
 
 -- a simple selector was added to the draft
 abbrev pub Adds : Bool → CompoundDraft → model.Simple → Next → CompoundDraft → Type 0
 Adds in_function old s next new =
     (atoms : List Atom) → compound_after in_function new atoms
-    ≡ all_in_front (map simple_view old.simples) (permitted in_function (in_front (Some s) (rest_of next atoms)))
+    ≡ all_in_front (map simple_view old.simples)
+    (permitted in_function (in_front (Some s) (rest_of next atoms)))
 
 -- ---- complex selectors
 
@@ -96,14 +100,16 @@ abbrev pub IsLeft : Option model.Selector → Combinator → Left → Type 0
 IsLeft s by left = (c : Option model.Compound) → begun left c ≡ followed_by s by c
 
 -- the selector goes on with combinators, and after each a compound
-abbrev pub goes_on : Bool → Option model.Selector → List (Combinator × List Atom) → Option model.Selector
+abbrev pub goes_on : Bool → Option model.Selector → List (Combinator × List Atom)
+    → Option model.Selector
 goes_on in_function s [] = s
 goes_on in_function s (link ∷ links) =
     goes_on in_function (followed_by s link.0 (permitted in_function (compound_of link.1))) links
 
 abbrev pub selector_of_parts : SelectorDraft → Chain → Option model.Selector
 selector_of_parts d chain =
-    goes_on d.in_function (begun d.left (compound_after d.in_function d.compound chain.first)) chain.links
+    goes_on d.in_function (begun d.left (compound_after d.in_function d.compound chain.first))
+    chain.links
 
 -- the selector of a draft and the atoms after it
 abbrev pub selector_after : SelectorDraft → List Atom → Option model.Selector
@@ -166,7 +172,8 @@ outcome_after d atoms = outcome d (members_from d.selector (between_commas (spac
 
 -- one more atom was taken into the draft
 abbrev pub TakesInList : ListDraft → Atom → ListDraft → Type 0
-TakesInList old a new = (atoms : List Atom) → outcome_after new atoms ≡ outcome_after old (a ∷ atoms)
+TakesInList old a new =
+    (atoms : List Atom) → outcome_after new atoms ≡ outcome_after old (a ∷ atoms)
 
 -- the selector was ended, and is a member of the draft, if it is one
 pub record EndsMember (old new : ListDraft) : Type 0 where

@@ -21,7 +21,8 @@ pub(crate) fn attribute_selector(
     alloc: Global,
     contents: &[Component],
 ) -> Result<Option<Simple>, NoMemory>
-    ensures { IfOk result (λ s. option_map simple_view s ≡ model.attribute_of (types contents.now)) }
+    ensures { IfOk result (λ s.
+        option_map simple_view s ≡ model.attribute_of (types contents.now)) }
 {
     let Some(front) = front_of(contents) else {
         return Ok(None);
@@ -101,7 +102,8 @@ fn attribute_with(
     matcher: AttributeMatcher,
     rest: &[Component],
 ) -> Result<Option<Simple>, NoMemory>
-    ensures { IfOk result (λ s. option_map simple_view s ≡ model.attribute_with name.now matcher (types rest.now)) }
+    ensures { IfOk result (λ s.
+        option_map simple_view s ≡ model.attribute_with name.now matcher (types rest.now)) }
 {
     match value_of(rest) {
         Some(value) => Ok(Some(Simple::AttributeValue(
@@ -115,7 +117,8 @@ fn attribute_with(
 
 /// An identifier or a string, with nothing but white space around it.
 fn value_of(components: &[Component]) -> Option<&Text>
-    ensures { option_copied result ≡ model.value_of (without_front_whitespace (types components.now)) }
+    ensures { option_copied result
+        ≡ model.value_of (without_front_whitespace (types components.now)) }
 {
     let front = front_of(components)?;
     let value = match front.token_type {

@@ -27,7 +27,8 @@ pub(crate) enum Left {
 
 /// What is on the left, and the compound selector.
 fn joined(alloc: Global, left: Left, compound: Compound) -> Result<Option<Selector>, NoMemory>
-    ensures { IfOk result (λ s. option_map selector_view s ≡ begun left (Some (compound_view compound))) }
+    ensures { IfOk result (λ s.
+        option_map selector_view s ≡ begun left (Some (compound_view compound))) }
 {
     match left {
         Left::Nothing => Ok(Some(first_selector(alloc, compound))),
@@ -54,7 +55,8 @@ fn followed_by(
     combinator: Combinator,
     compound: Compound,
 ) -> Result<Selector, NoMemory>
-    ensures { IfOk result (λ s. selector_view s ≡ combined (selector_view selector) combinator (compound_view compound)) }
+    ensures { IfOk result (λ s.
+        selector_view s ≡ combined (selector_view selector) combinator (compound_view compound)) }
 {
     let Selector { first, mut links } = selector;
     links.push(Link {
@@ -115,7 +117,8 @@ impl SelectorDraft {
 
     /// Ends the selector, if it is one, and begins the next.
     pub(crate) fn end(&mut self, alloc: Global) -> Result<Option<Selector>, NoMemory>
-        ensures selector { IfOk result (λ s. option_map selector_view s ≡ selector_after self.old []) }
+        ensures selector { IfOk result (λ s.
+            option_map selector_view s ≡ selector_after self.old []) }
         ensures new { OnOk result (self.new ≡ no_selector self.old.in_function) }
     {
         let left = mem::replace(&mut self.left, Left::Nothing);

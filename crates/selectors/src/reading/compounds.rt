@@ -239,7 +239,8 @@ impl CompoundDraft {
 
     /// Ends the compound selector, if it is one, and begins the next.
     pub(crate) fn end(&mut self, alloc: Global) -> Option<Compound>
-        ensures compound { (in_function : Bool) → option_map compound_view result ≡ compound_after in_function self.old [] }
+        ensures compound { (in_function : Bool) →
+            option_map compound_view result ≡ compound_after in_function self.old [] }
         ensures new { self.new ≡ record { simples = []; next = Next.Any } }
     {
         let CompoundDraft { simples, next } = mem::replace(self, CompoundDraft::new(alloc));

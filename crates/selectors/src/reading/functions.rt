@@ -1,8 +1,8 @@
-//! Component values as parts of selectors, and the selector lists in functions (Selectors 4, sections
-//! 4.2 to 4.4 and 14).
-ghost use Rattle.css_tokens.specs.Nested.{component_view, components_view};
+//! Component values as parts of selectors, and the selector lists in functions (Selectors 4,
+//! sections 4.2 to 4.4 and 14).
+ghost use Rattle.css_tokens.specs.Nested.{component_view};
 ghost use Rattle.selectors.specs.Views.{simple_view, list_view};
-ghost use Rattle.selectors.specs.inner.Atoms.{atom_view};
+ghost use Rattle.selectors.specs.inner.Atoms.{atom_view, atoms};
 ghost use Rattle.selectors.specs.inner.Drafts.{IsRead, members_in};
 ghost use Rattle.selectors.specs.inner.Fronts.{types};
 ghost use Rattle.selectors_model.specs.Grammar as model;
@@ -69,7 +69,7 @@ fn atom_of_function<'a>(
     contents: &Components,
 ) -> Result<Atom<'a>, NoMemory>
     ensures { IfOk result (λ a. atom_view a
-        ≡ model.atom_of_function head.now.token_type (model.atoms_of (components_view contents.now)) (types contents.now)) }
+        ≡ model.atom_of_function head.now.token_type (atoms contents.now) (types contents.now)) }
 {
     match &head.token_type {
         TokenType::Function(name) => {
@@ -88,7 +88,7 @@ fn functional_pseudo_class(
     contents: &Components,
 ) -> Result<Option<Simple>, NoMemory>
     ensures { IfOk result (λ s. option_map simple_view s
-        ≡ model.functional_pseudo_class name.now (model.atoms_of (components_view contents.now)) (types contents.now)) }
+        ≡ model.functional_pseudo_class name.now (atoms contents.now) (types contents.now)) }
 {
     if is_word(name, "is") {
         Ok(Some(Simple::Is(read_members(alloc, contents, true)?.list)))
@@ -128,8 +128,7 @@ pub(crate) fn read_members(
     components: &Components,
     in_function: bool,
 ) -> Result<Members, NoMemory>
-    ensures { IfOk result (λ read. IsRead read
-        (members_in in_function (model.atoms_of (components_view components.now)))) }
+    ensures { IfOk result (λ read. IsRead read (members_in in_function (atoms components.now))) }
 {
     let mut draft = ListDraft::new(alloc, in_function);
     for c in components.as_slice() {

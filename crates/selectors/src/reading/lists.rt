@@ -12,7 +12,8 @@ use port_core::{NoMemory, Seq};
 use selectors_model::Combinator;
 use std::alloc::Global;
 
-/// What is just before, of which white space may be the descendant combinator (Selectors 4, section 15.1).
+/// What is just before: white space between two compound selectors is the descendant combinator
+/// (Selectors 4, section 15.1).
 #[derive(Clone, Copy, Debug, PartialEq, Eq)]
 pub(crate) enum Gap {
     /// No compound selector.
@@ -152,7 +153,8 @@ pub(crate) struct Members {
 impl Members {
     /// The list of all members, if all are valid.
     pub(crate) fn all(self) -> Option<SelectorList>
-        ensures { option_map list_view result ≡ if self.are_valid then Some (list_view self.list) else None }
+        ensures { option_map list_view result
+            ≡ if self.are_valid then Some (list_view self.list) else None }
     {
         if self.are_valid {
             Some(self.list)

@@ -1,4 +1,5 @@
-//! The names of pseudo-classes and pseudo-elements, in any case (Selectors 4, sections 3.5 and 3.6).
+//! The names of pseudo-classes and pseudo-elements, in any case (Selectors 4, sections 3.5 and
+//! 3.6).
 ghost use Rattle.selectors_model.specs.PseudoNames as names;
 ghost use Rattle.std.specs.Prelude.{◌≡◌};
 
@@ -46,8 +47,8 @@ pub(crate) fn nth_pseudo_class(name: &Text) -> Option<Nth>
     }
 }
 
-/// Whether this is the name of a pseudo-class of links, of what a user does or of inputs: no element
-/// is in such a state here (Selectors 4, sections 8, 9 and 13).
+/// Whether this is the name of a pseudo-class of links, of what a user does or of inputs
+/// (Selectors 4, sections 8, 9 and 13): no element is in such a state here.
 fn is_unmatched_pseudo_class(name: &Text) -> bool
     ensures { result ≡ names.is_one_of names.unmatched_pseudo_classes name.now }
 {

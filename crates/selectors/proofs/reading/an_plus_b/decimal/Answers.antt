@@ -1,5 +1,5 @@
 use Rattle.std.proofs.Common.{arith, ◌≡◌, ◌∙◌, ◌+◌, ◌-◌, ◌*◌, min, get_or}
-use Rattle.selectors.proofs.Numbers.{decimal-step}
+use Rattle.selectors.proofs.Decimals.{decimal-step}
 use Rattle.selectors.proofs.reading.an_plus_b.decimal.Goals as goal
 
 pub loop-digit-preserved : goal.loop-digit-preserved

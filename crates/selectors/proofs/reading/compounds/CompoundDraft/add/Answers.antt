@@ -1,6 +1,6 @@
 use Rattle.std.proofs.lemmas.Result.{on_ok_weaker}
 use Rattle.std.proofs.Common.{◌∙◌, sym}
-use Rattle.selectors.proofs.Drafts.{added-forbidden, added-pushed}
+use Rattle.selectors.proofs.CompoundDrafts.{added-forbidden, added-pushed}
 use Rattle.selectors.proofs.reading.compounds.CompoundDraft.add.Goals as goal
 
 pub returns-then-is_forbidden : goal.returns-then-is_forbidden

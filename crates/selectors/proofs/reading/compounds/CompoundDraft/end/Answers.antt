@@ -1,4 +1,4 @@
-use Rattle.selectors.proofs.Drafts.{ended-whole, ended-invalid}
+use Rattle.selectors.proofs.CompoundDrafts.{ended-whole, ended-invalid}
 use Rattle.selectors.proofs.reading.compounds.CompoundDraft.end.Goals as goal
 
 pub returns-then-is_complete-clause-compound : goal.returns-then-is_complete-clause-compound

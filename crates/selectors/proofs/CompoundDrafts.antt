@@ -1,4 +1,4 @@
--- Drafts of compounds.
+-- Drafts of compound selectors.
 use Rattle.std.proofs.Common.{◌≡◌, ◌∙◌, ap, sym, refl, List, [], ◌∷◌, ◌++◌, ◌&&◌, map, Option, Some, None, Bool, true, false, inl, inr}
 use Rattle.std.proofs.lemmas.List.{map-append}
 use Rattle.std.specs.Prelude.{if◌then◌else◌}

@@ -1,4 +1,4 @@
--- Numbers in `An+B`.
+-- The number that digits write, clamped.
 use Rattle.std.proofs.Common.{◌≡◌, ◌∙◌, ap, sym, ℕ, suc, ◌+◌, ◌-◌, ◌*◌, ◌<◌, min, List, [], ◌∷◌, length, drop, drop-cons, get_or, add-one, arith}
 use Rattle.css_model.specs.Numerals.{decimal_after}
 
