@@ -27,4 +27,4 @@ pub use css_model::{Bracket, Number, Token, TokenType, Tokens};
 pub use fault::TokenFault;
 pub use nesting::components;
 pub use tokenizer::tokenize;
-pub use words::{begins_with_word, is_word};
+pub use words::{begins_with, begins_with_word, is_word};

@@ -24,7 +24,7 @@ pub fn begins_with_word(name: &Text, word: &str) -> bool
 }
 
 /// Whether `bytes` begin with `word`, in any case.
-fn begins_with(bytes: &[u8], word: &[u8]) -> bool
+pub fn begins_with(bytes: &[u8], word: &[u8]) -> bool
     ensures { result ≡ starts_with eq_ignore_ascii_case bytes.now word.now }
 {
     word.len() <= bytes.len() && bytes[..word.len()].eq_ignore_ascii_case(word)

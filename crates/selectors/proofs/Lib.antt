@@ -1,4 +1,3 @@
-pub mod Words
 pub mod CompoundDrafts
 pub mod SelectorDrafts
 pub mod ListDrafts

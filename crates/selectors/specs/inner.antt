@@ -1,5 +1,4 @@
 -- What only private functions cite.
-pub mod Words
 pub mod Atoms
 pub mod Drafts
 pub mod Fronts

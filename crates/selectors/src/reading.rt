@@ -13,7 +13,6 @@ mod fronts;
 mod functions;
 mod lists;
 mod pseudo_names;
-mod words;
 
 use crate::selector::SelectorList;
 use css_tokens::Components;

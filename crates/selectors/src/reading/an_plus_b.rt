@@ -12,9 +12,8 @@ ghost use Rattle.std.specs.Prelude.{◌≡◌, ◌∷◌, ◌+◌, min, pos, neg
 ghost use Rattle.css_model.specs.declared.token.TokenType.TheVariants as token;
 
 use super::fronts::{front_of, type_of};
-use super::words::begins_with;
 use css_model::{Number, TokenType};
-use css_tokens::Component;
+use css_tokens::{Component, begins_with};
 use port_core::Text;
 use selectors_model::{AnPlusB, MAX_AN_PLUS_B};
 

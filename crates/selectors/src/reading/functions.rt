@@ -15,10 +15,9 @@ use super::atoms::{Atom, Part, atom_of_type};
 use super::attributes::attribute_selector;
 use super::lists::{ListDraft, Members};
 use super::pseudo_names::nth_pseudo_class;
-use super::words::is_word;
 use crate::selector::Simple;
 use css_model::{Bracket, Token, TokenType};
-use css_tokens::{Component, Components};
+use css_tokens::{Component, Components, is_word};
 use port_core::{NoMemory, Text};
 use std::alloc::Global;
 

@@ -3,7 +3,7 @@
 ghost use Rattle.selectors_model.specs.PseudoNames as names;
 ghost use Rattle.std.specs.Prelude.{◌≡◌};
 
-use super::words::{begins_with_word, is_word};
+use css_tokens::{begins_with_word, is_word};
 use port_core::Text;
 use selectors_model::{Nth, PseudoClass};
 
