@@ -2,10 +2,17 @@
 #![tactic(auto)]
 
 mod condition;
+mod drafts;
 mod judge;
+mod keywords;
+mod read_feature;
+mod reading;
 mod values;
+mod words;
 
 pub use condition::Condition;
 pub use conditions_model::Tri;
 pub use judge::Judge;
+pub use read_feature::ReadFeature;
+pub use reading::read_condition;
 pub use values::eval;
