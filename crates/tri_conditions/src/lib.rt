@@ -14,5 +14,5 @@ pub use condition::Condition;
 pub use conditions_model::Tri;
 pub use judge::Judge;
 pub use read_feature::ReadFeature;
-pub use reading::read_condition;
+pub use reading::{read_condition, read_condition_slice};
 pub use values::eval;

@@ -20,7 +20,6 @@ use std::alloc::Global;
 /// knows no feature, the component value is `Enclosed`.
 /// Time grows with the number of component values, and with what `r` takes; the calls are as deep as
 /// brackets nest.
-#[cycle(reading)]
 pub fn read_condition<Q: Drop, R: ReadFeature<Q>>(
     alloc: Global,
     c: &Components,
@@ -29,8 +28,21 @@ pub fn read_condition<Q: Drop, R: ReadFeature<Q>>(
     ensures { IfOk result (λ read. option_map condition_view read
         ≡ condition_of (R.reads r.now) (components_view c.now)) }
 {
+    read_condition_slice(alloc, c.as_slice(), r)
+}
+
+/// Returns the condition that `c`, a part of a list, is, if it is one: as `read_condition`.
+#[cycle(reading)]
+pub fn read_condition_slice<Q: Drop, R: ReadFeature<Q>>(
+    alloc: Global,
+    c: &[Component],
+    r: &R,
+) -> Result<Option<Condition<Q>>, NoMemory>
+    ensures { IfOk result (λ read. option_map condition_view read
+        ≡ condition_of (R.reads r.now) (components_view c.now)) }
+{
     let mut draft = Draft::Empty;
-    for component in c.as_slice() {
+    for component in c {
         let word = word_of(alloc, component, r)?;
         draft = draft.take(alloc, word)?;
     }
@@ -52,7 +64,7 @@ fn word_of<'a, Q: Drop, R: ReadFeature<Q>>(
             if !is_round(&head.token_type) {
                 return Ok(Word::Other);
             }
-            match read_condition(alloc, contents, r)? {
+            match read_condition_slice(alloc, contents.as_slice(), r)? {
                 Some(condition) => Ok(Word::Part(condition)),
                 None => feature_word(alloc, c, r),
             }
