@@ -87,7 +87,8 @@ not (color) or (hover) => none
 not (color) (hover) => none"#;
 
 /// Texts with their conditions, where each part that is asked for is a feature: `x`, `?` for an
-/// enclosed part, `!` for `not`, and `&( )` and `|( )` around parts with `and` and `or` between them.
+/// enclosed part, `!` for `not`, and `&( )` and `|( )` around parts with `and` and `or` between
+/// them.
 const ASKED: &str = r#"(a) => x
 (a b) => x
 ((a b)) => x

@@ -13,20 +13,23 @@ use Rattle.tri_conditions.specs.inner.Drafts.{in_front, join_named, joined, join
 
 -- ---- one part more
 
-in_front-more : {Q : Type 0} (front : List (ConditionTree Q)) (c : ConditionTree Q) (cs : ConditionTrees Q)
+in_front-more : {Q : Type 0} (front : List (ConditionTree Q)) (c : ConditionTree Q)
+    (cs : ConditionTrees Q)
     → in_front (front ++ c ∷ []) cs ≡ in_front front (condition c cs)
 in_front-more [] c cs = refl
 in_front-more (d ∷ front) c cs = ap (condition d) (in_front-more front c cs)
 
-pub joined_with-more : {Q : Type 0} (join : Join) (front : List (ConditionTree Q)) (c : ConditionTree Q)
-    (more : Option (ConditionTrees Q))
-    → joined_with join (front ++ c ∷ []) more ≡ joined_with join front (option_map (condition c) more)
+pub joined_with-more : {Q : Type 0} (join : Join) (front : List (ConditionTree Q))
+    (c : ConditionTree Q) (more : Option (ConditionTrees Q))
+    → joined_with join (front ++ c ∷ []) more
+    ≡ joined_with join front (option_map (condition c) more)
 joined_with-more join front c None = refl
 joined_with-more join front c (Some cs) = ap (λ ds. Some (joined join ds)) (in_front-more front c cs)
 
 -- ---- no more parts
 
-in_front-all : {Q : Type 0} (front : List (ConditionTree Q)) → in_front front no_conditions ≡ listed front
+in_front-all : {Q : Type 0} (front : List (ConditionTree Q))
+    → in_front front no_conditions ≡ listed front
 in_front-all [] = refl
 in_front-all (c ∷ front) = ap (condition c) (in_front-all front)
 
@@ -37,14 +40,17 @@ joined_with-all join front = ap (λ ds. Some (joined join ds)) (in_front-all fro
 -- ---- the first keyword
 
 -- `and` is not `or`
-and-keyword : (name : Text) → is_keyword (codes "and") name ≡ true → is_keyword (codes "or") name ≡ false
+and-keyword : (name : Text) → is_keyword (codes "and") name ≡ true
+    → is_keyword (codes "or") name ≡ false
 and-keyword name e =
-    let decides = bytes_eq-Decides (str_to_ascii_lowercase name) (str_to_ascii_lowercase (codes "and")) in
+    let lower_and : Text = str_to_ascii_lowercase (codes "and") in
+    let decides = bytes_eq-Decides (str_to_ascii_lowercase name) lower_and in
     subst (λ x. bytes_eq x (str_to_ascii_lowercase (codes "or")) ≡ false) (sym (decides.0 e)) refl
 
 and-more : {Q : Type 0} (c d : ConditionTree Q) (more : Option (ConditionTrees Q))
     → joined_with And (c ∷ []) (option_map (condition d) more)
-    ≡ option_or (option_or None (option_map (joined_by all_of c) (option_map (condition d) more))) None
+    ≡ option_or (option_or None (option_map (joined_by all_of c) (option_map (condition d) more)))
+    None
 and-more c d None = refl
 and-more c d (Some cs) = refl
 
@@ -54,16 +60,20 @@ or-more : {Q : Type 0} (c d : ConditionTree Q) (more : Option (ConditionTrees Q)
 or-more c d None = refl
 or-more c d (Some cs) = refl
 
-and-after : {Q : Type 0} (c : ConditionTree Q) (name : Text) → is_keyword (codes "and") name ≡ true → (ws : List (Word Q))
-    → joined_with And (c ∷ []) (parts_after (codes "and") ws) ≡ condition_of_words (part c ∷ ident name ∷ ws)
+and-after : {Q : Type 0} (c : ConditionTree Q) (name : Text) → is_keyword (codes "and") name ≡ true
+    → (ws : List (Word Q))
+    → joined_with And (c ∷ []) (parts_after (codes "and") ws)
+    ≡ condition_of_words (part c ∷ ident name ∷ ws)
 and-after c name e [] = refl
 and-after c name e (ident other ∷ ws) = refl
 and-after c name e (other_word ∷ ws) = refl
-and-after c name e (part d ∷ ws) = rw (e, and-keyword name e) (and-more c d (more_parts (codes "and") ws))
+and-after c name e (part d ∷ ws) =
+    rw (e, and-keyword name e) (and-more c d (more_parts (codes "and") ws))
 
 or-after : {Q : Type 0} (c : ConditionTree Q) (name : Text) → is_keyword (codes "and") name ≡ false
     → is_keyword (codes "or") name ≡ true → (ws : List (Word Q))
-    → joined_with Or (c ∷ []) (parts_after (codes "or") ws) ≡ condition_of_words (part c ∷ ident name ∷ ws)
+    → joined_with Or (c ∷ []) (parts_after (codes "or") ws)
+    ≡ condition_of_words (part c ∷ ident name ∷ ws)
 or-after c name n e [] = refl
 or-after c name n e (ident other ∷ ws) = refl
 or-after c name n e (other_word ∷ ws) = refl
@@ -71,8 +81,10 @@ or-after c name n e (part d ∷ ws) = rw (n, e) (or-more c d (more_parts (codes 
 
 named-after : {Q : Type 0} (c : ConditionTree Q) (name : Text) (join : Join) (is_and is_or : Bool)
     → is_keyword (codes "and") name ≡ is_and → is_keyword (codes "or") name ≡ is_or
-    → (if is_and then Some And else if is_or then Some Or else None) ≡ Some join → (ws : List (Word Q))
-    → joined_with join (c ∷ []) (parts_after (keyword_of join) ws) ≡ condition_of_words (part c ∷ ident name ∷ ws)
+    → (if is_and then Some And else if is_or then Some Or else None) ≡ Some join
+    → (ws : List (Word Q))
+    → joined_with join (c ∷ []) (parts_after (keyword_of join) ws)
+    ≡ condition_of_words (part c ∷ ident name ∷ ws)
 named-after c name And true is_or e f n ws = and-after c name e ws
 named-after c name Or true is_or e f n ws = cc
 named-after c name And false true e f n ws = cc
@@ -80,8 +92,10 @@ named-after c name Or false true e f n ws = or-after c name e f ws
 named-after c name join false false e f n ws = cc
 
 -- a part, and then a keyword
-pub first-join : {Q : Type 0} (c : ConditionTree Q) (name : Text) (join : Join) → join_named name ≡ Some join
-    → (ws : List (Word Q))
-    → joined_with join (c ∷ []) (parts_after (keyword_of join) ws) ≡ condition_of_words (part c ∷ ident name ∷ ws)
+pub first-join : {Q : Type 0} (c : ConditionTree Q) (name : Text) (join : Join)
+    → join_named name ≡ Some join → (ws : List (Word Q))
+    → joined_with join (c ∷ []) (parts_after (keyword_of join) ws)
+    ≡ condition_of_words (part c ∷ ident name ∷ ws)
 first-join c name join n ws =
-    named-after c name join (is_keyword (codes "and") name) (is_keyword (codes "or") name) refl refl n ws
+    named-after c name join (is_keyword (codes "and") name) (is_keyword (codes "or") name)
+    refl refl n ws

@@ -16,10 +16,10 @@ use std::alloc::Global;
 
 /// Returns the condition that `c` is, if it is one, where `r` knows features.
 ///
-/// `r` is asked for functions, and for pairs of round brackets without a condition in them; where it
-/// knows no feature, the component value is `Enclosed`.
-/// Time grows with the number of component values, and with what `r` takes; the calls are as deep as
-/// brackets nest.
+/// `r` is asked for functions, and for pairs of round brackets without a condition in them; where
+/// it knows no feature, the component value is `Enclosed`.
+/// Time grows with the number of component values, and with what `r` takes; the calls are as deep
+/// as brackets nest.
 pub fn read_condition<Q: Drop, R: ReadFeature<Q>>(
     alloc: Global,
     c: &Components,
@@ -56,7 +56,8 @@ fn word_of<'a, Q: Drop, R: ReadFeature<Q>>(
     c: &'a Component,
     r: &R,
 ) -> Result<Word<'a, Q>, NoMemory>
-    ensures { IfOk result (λ w. words_seen w ≡ words_of (R.reads r.now) (component_view c.entry.now)) }
+    ensures { IfOk result (λ w. words_seen w
+        ≡ words_of (R.reads r.now) (component_view c.entry.now)) }
 {
     match c {
         Component::One(token) => Ok(token_word(&token.token_type)),

@@ -51,7 +51,8 @@ in_front [] cs = cs
 in_front (c ∷ front) cs = condition c (in_front front cs)
 
 -- the condition of these parts and the ones after them
-abbrev pub joined_with : {Q : Type 0} → Join → List (ConditionTree Q) → Option (ConditionTrees Q) → Option (ConditionTree Q)
+abbrev pub joined_with : {Q : Type 0} → Join → List (ConditionTree Q) → Option (ConditionTrees Q)
+    → Option (ConditionTree Q)
 joined_with join front more = option_map (λ cs. joined join (in_front front cs)) more
 
 -- the condition of a draft and the words after it
@@ -60,13 +61,16 @@ condition_after Empty ws = condition_of_words ws
 condition_after Not ws = negated ws
 condition_after (Whole c) ws = nothing_after (condition_view c) ws
 condition_after (Part c) ws = condition_of_words (part (condition_view c) ∷ ws)
-condition_after (Parts join parts) ws = joined_with join (map condition_view parts) (more_parts (keyword_of join) ws)
-condition_after (Open join parts) ws = joined_with join (map condition_view parts) (parts_after (keyword_of join) ws)
+condition_after (Parts join parts) ws =
+    joined_with join (map condition_view parts) (more_parts (keyword_of join) ws)
+condition_after (Open join parts) ws =
+    joined_with join (map condition_view parts) (parts_after (keyword_of join) ws)
 condition_after Invalid ws = None
 
 -- one more word was taken into the draft
 abbrev pub TakesWord : {Q : Type 0} → Draft Q → Word Q → Draft Q → Type 0
-TakesWord {Q} old w new = (ws : List (Word Q)) → condition_after new ws ≡ condition_after old (w ∷ ws)
+TakesWord {Q} old w new =
+    (ws : List (Word Q)) → condition_after new ws ≡ condition_after old (w ∷ ws)
 
 -- these words were taken into the draft
 abbrev pub TakesWords : {Q : Type 0} → Draft Q → List (Word Q) → Draft Q → Type 0

@@ -6,4 +6,5 @@ use Rattle.tri_conditions.proofs.drafts.Draft.finish.Goals as goal
 pub returns-in-Parts : goal.returns-in-Parts
 returns-in-Parts g c =
     rw c.in-Parts.is
-    (ap Some c.condition.ensures ∙ sym (joined_with-all c.in-Parts.join (map condition_view c.in-Parts.parts)))
+    (ap Some c.condition.ensures
+    ∙ sym (joined_with-all c.in-Parts.join (map condition_view c.in-Parts.parts)))

@@ -6,4 +6,5 @@ use Rattle.tri_conditions.proofs.drafts.Draft.opened.Goals as goal
 pub returns-in_ok-push-in-Some : goal.returns-in_ok-push-in-Some
 returns-in_ok-push-in-Some g c = λ ws.
     let pushed : c.push.new.self ≡ c.args.c ∷ [] = search rules in
-    rw pushed (first-join (condition_view c.args.c) c.args.name.now c.in-Some.join (sym c.named.ensures ∙ c.in-Some.is) ws)
+    rw pushed (first-join (condition_view c.args.c) c.args.name.now c.in-Some.join
+    (sym c.named.ensures ∙ c.in-Some.is) ws)
