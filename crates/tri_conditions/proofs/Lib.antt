@@ -1,0 +1,2 @@
+pub mod AsciiWords
+pub mod ConditionRests
