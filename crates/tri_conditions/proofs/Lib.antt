@@ -1,2 +1,1 @@
-pub mod AsciiWords
 pub mod ConditionRests

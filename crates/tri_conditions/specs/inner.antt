@@ -1,4 +1,3 @@
--- What private functions cite: keywords, words, and what was read of a condition.
-pub mod Keywords
+-- What private functions cite: words, and what was read of a condition.
 pub mod Words
 pub mod Drafts

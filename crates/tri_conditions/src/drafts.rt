@@ -7,8 +7,8 @@ ghost use Rattle.tri_conditions.specs.inner.Drafts.{condition_after, join_named,
 ghost use Rattle.tri_conditions.specs.inner.Words.{words_seen};
 
 use crate::condition::Condition;
-use crate::keywords::is_word;
 use crate::words::Word;
+use css_tokens::is_word;
 use port_core::{Boxed, NoMemory, Seq, Text};
 use std::alloc::Global;
 

@@ -4,7 +4,6 @@
 mod condition;
 mod drafts;
 mod judge;
-mod keywords;
 mod read_feature;
 mod reading;
 mod values;
