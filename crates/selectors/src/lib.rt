@@ -3,6 +3,8 @@
 
 mod rules;
 mod selector;
+mod specificities;
 
 pub use rules::Rule;
 pub use selector::{Compound, Link, Selector, SelectorList, Simple};
+pub use specificities::specificity;
