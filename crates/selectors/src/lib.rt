@@ -1,10 +1,12 @@
 //! Selectors: read from component values, matched against elements.
 #![tactic(auto)]
 
+mod matched;
 mod rules;
 mod selector;
 mod specificities;
 
-pub use rules::Rule;
+pub use matched::Matched;
+pub use rules::{Rule, RuleList};
 pub use selector::{Compound, Link, Selector, SelectorList, Simple};
 pub use specificities::specificity;
