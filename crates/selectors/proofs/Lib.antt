@@ -1,1 +1,4 @@
 pub mod AreAscending
+pub mod Utf8
+pub mod Comparisons
+pub mod Words

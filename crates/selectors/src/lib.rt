@@ -5,6 +5,7 @@ mod matched;
 mod rules;
 mod selector;
 mod specificities;
+mod values;
 
 pub use matched::Matched;
 pub use rules::{Rule, RuleList};
