@@ -2,3 +2,4 @@ pub mod AreAscending
 pub mod Utf8
 pub mod Comparisons
 pub mod Words
+pub mod AncestorsOf
