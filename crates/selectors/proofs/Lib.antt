@@ -3,3 +3,6 @@ pub mod Utf8
 pub mod Comparisons
 pub mod Words
 pub mod AncestorsOf
+pub mod AllBefore
+pub mod Rows
+pub mod CountedBeside

@@ -4,6 +4,7 @@
 mod matched;
 mod rules;
 mod selector;
+mod siblings;
 mod specificities;
 mod values;
 

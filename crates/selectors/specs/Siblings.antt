@@ -1,0 +1,39 @@
+-- The siblings on a side of a node, the nearest first (Selectors 4, sections 3.2 and 14).
+use Rattle.std.specs.Prelude.{ℕ, List, [], ◌∷◌, filter, is_some, reverse, Option, Some, None, option_map, unwrap_or, Bool}
+use Rattle.std.specs.Borrow.{Bor}
+use Rattle.std.specs.Str.{chars}
+use Rattle.page_model.specs.Document.{Node, children_of, ids_of, name_at, next_of, parent_in, prev_of}
+use Rattle.page_model.specs.Trees.{Text}
+use Rattle.selectors_model.specs.Elements.{all_after, all_before, is_same_name}
+use Rattle.selectors.specs.declared.siblings.Side.{Side}
+use Rattle.selectors.specs.declared.siblings.Side.TheVariants.{Before, After}
+
+-- the children of the node's parent, texts and elements; the root is alone
+abbrev pub row_of : ℕ → Node → List ℕ
+row_of i root = unwrap_or (option_map (λ p. ids_of (children_of p)) (parent_in i root)) (i ∷ [])
+
+abbrev pub nodes_beside : Side → ℕ → Node → List ℕ
+nodes_beside Before i root = reverse (all_before i (row_of i root))
+nodes_beside After i root = all_after i (row_of i root)
+
+-- the sibling right beside the node
+abbrev pub beside_of : Side → ℕ → Node → Option ℕ
+beside_of Before i root = prev_of i root
+beside_of After i root = next_of i root
+
+-- a node with this name, or none if it is a text, is one of those that are wanted: all elements, or
+-- those with a name
+abbrev pub is_wanted : Option Text → Option Text → Bool
+is_wanted None actual = is_some actual
+is_wanted (Some name) actual = is_same_name (Some name) actual
+
+abbrev pub counts : Option Text → Node → ℕ → Bool
+counts name root i = is_wanted name (name_at i root)
+
+-- those that are wanted
+abbrev pub counted_beside : Side → Option Text → ℕ → Node → List ℕ
+counted_beside side name i root = filter (counts name root) (nodes_beside side i root)
+
+-- the characters of a name that is wanted
+abbrev pub wanted : Option (Bor (List ℕ)) → Option Text
+wanted name = option_map (λ s. chars s.now) name
