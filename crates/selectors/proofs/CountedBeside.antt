@@ -8,7 +8,6 @@ use Rattle.page_laws.proofs.IsAmong.{among-split}
 use Rattle.page_laws.proofs.ParentOf.{parent-child}
 use Rattle.page_laws.proofs.Options.{none-or-some}
 use Rattle.page_model.specs.Document.{AreDistinct, IsAmong, Node, after, before, children_of, first, ids, ids_of, next_of, parent_in, prev_of}
-use Rattle.page_model.specs.Trees.{Text}
 use Rattle.selectors.proofs.AllBefore.{head-same, if-false, if-true, reverse-cons, tail, after-back, after-member, after-nearest, after-short, before-back-reverse, before-member, before-nearest, before-short}
 use Rattle.selectors.proofs.Rows.{row-distinct, row-row, row-self, row-short}
 use Rattle.selectors.specs.Siblings.{beside_of, counted_beside, counts, nodes_beside, row_of}
@@ -76,9 +75,9 @@ from-nearest side i root d = from-list side i (nodes_beside side i root) root d 
 
 -- ---- what is counted
 
-abbrev pub from_counted : Side → Option Text → Option ℕ → Node → List ℕ
-from_counted side name None root = []
-from_counted side name (Some j) root = j ∷ counted_beside side name j root
+abbrev pub from_counted : Side → Option ℕ → Option ℕ → Node → List ℕ
+from_counted side alike None root = []
+from_counted side alike (Some j) root = j ∷ counted_beside side alike j root
 
 -- the first that passes a test, and what is in front of it
 filter-first : (p : ℕ → Bool) (js : List ℕ) (j : ℕ) (rest : List ℕ) → filter p js ≡ j ∷ rest
@@ -93,20 +92,20 @@ filter-first p (k ∷ js) j rest e = elim (cases_Bool (p k)) [
       (k ∷ found.0, found.1, ap (λ ks. k ∷ ks) found.2, found.3)
 ]
 
-counted-step : (side : Side) (name : Option Text) (i j : ℕ) (rest : List ℕ) (root : Node) → AreDistinct (ids root)
-    → counted_beside side name i root ≡ j ∷ rest → counted_beside side name j root ≡ rest
-counted-step side name i j rest root d e =
-    let found = filter-first (counts name root) (nodes_beside side i root) j rest e in
-    ap (filter (counts name root)) (beside-past side i j found.0 found.1 root d found.2) ∙ found.3
+counted-step : (side : Side) (alike : Option ℕ) (i j : ℕ) (rest : List ℕ) (root : Node) → AreDistinct (ids root)
+    → counted_beside side alike i root ≡ j ∷ rest → counted_beside side alike j root ≡ rest
+counted-step side alike i j rest root d e =
+    let found = filter-first (counts alike root) (nodes_beside side i root) j rest e in
+    ap (filter (counts alike root)) (beside-past side i j found.0 found.1 root d found.2) ∙ found.3
 
-counted-list : (side : Side) (name : Option Text) (i : ℕ) (js : List ℕ) (root : Node) → AreDistinct (ids root)
-    → counted_beside side name i root ≡ js → from_counted side name (first js) root ≡ js
-counted-list side name i [] root d e = refl
-counted-list side name i (j ∷ js) root d e = ap (λ ks. j ∷ ks) (counted-step side name i j js root d e)
+counted-list : (side : Side) (alike : Option ℕ) (i : ℕ) (js : List ℕ) (root : Node) → AreDistinct (ids root)
+    → counted_beside side alike i root ≡ js → from_counted side alike (first js) root ≡ js
+counted-list side alike i [] root d e = refl
+counted-list side alike i (j ∷ js) root d e = ap (λ ks. j ∷ ks) (counted-step side alike i j js root d e)
 
-pub counted-nearest : (side : Side) (name : Option Text) (i : ℕ) (root : Node) → AreDistinct (ids root)
-    → from_counted side name (first (counted_beside side name i root)) root ≡ counted_beside side name i root
-counted-nearest side name i root d = counted-list side name i (counted_beside side name i root) root d refl
+pub counted-nearest : (side : Side) (alike : Option ℕ) (i : ℕ) (root : Node) → AreDistinct (ids root)
+    → from_counted side alike (first (counted_beside side alike i root)) root ≡ counted_beside side alike i root
+counted-nearest side alike i root d = counted-list side alike i (counted_beside side alike i root) root d refl
 
 -- ---- how many
 
@@ -120,11 +119,11 @@ beside-short After i root =
     let b = row-short i root in
     omega (arith, a, b)
 
-pub counted-short : (side : Side) (name : Option Text) (i : ℕ) (root : Node) → length (counted_beside side name i root) ≤ length (ids root)
-counted-short side name i root =
+pub counted-short : (side : Side) (alike : Option ℕ) (i : ℕ) (root : Node) → length (counted_beside side alike i root) ≤ length (ids root)
+counted-short side alike i root =
     let a = beside-short side i root in
-    let b = count_by-le-length (counts name root) (nodes_beside side i root) in
-    omega (arith, a, b, length-filter (counts name root) (nodes_beside side i root))
+    let b = count_by-le-length (counts alike root) (nodes_beside side i root) in
+    omega (arith, a, b, length-filter (counts alike root) (nodes_beside side i root))
 
 -- ---- steps of the walks
 
@@ -134,20 +133,20 @@ pub from-beside : (side : Side) (i : ℕ) (r : Option ℕ) (root : Node) → Are
 from-beside side i r root d e = ap (λ o. from_node side o root) (e ∙ beside-nearest side i root) ∙ from-nearest side i root d
 
 -- one that does not count is passed over
-pub nearest-later : (side : Side) (name : Option Text) (at : Option ℕ) (j : ℕ) (r : Option ℕ) (root : Node) → AreDistinct (ids root) → at ≡ Some j
-    → counts name root j ≡ false → r ≡ beside_of side j root
-    → filter (counts name root) (from_node side r root) ≡ filter (counts name root) (from_node side at root)
-nearest-later side name at j r root d is other e =
-    ap (filter (counts name root)) (from-beside side j r root d e)
-    ∙ (sym (if-false (counts name root j) (j ∷ filter (counts name root) (nodes_beside side j root)) (filter (counts name root) (nodes_beside side j root)) other)
-    ∙ ap (λ o. filter (counts name root) (from_node side o root)) (sym is))
+pub nearest-later : (side : Side) (alike : Option ℕ) (at : Option ℕ) (j : ℕ) (r : Option ℕ) (root : Node) → AreDistinct (ids root) → at ≡ Some j
+    → counts alike root j ≡ false → r ≡ beside_of side j root
+    → filter (counts alike root) (from_node side r root) ≡ filter (counts alike root) (from_node side at root)
+nearest-later side alike at j r root d is other e =
+    ap (filter (counts alike root)) (from-beside side j r root d e)
+    ∙ (sym (if-false (counts alike root j) (j ∷ filter (counts alike root) (nodes_beside side j root)) (filter (counts alike root) (nodes_beside side j root)) other)
+    ∙ ap (λ o. filter (counts alike root) (from_node side o root)) (sym is))
 
 -- one that does is the nearest
-pub nearest-here : (side : Side) (name : Option Text) (at : Option ℕ) (j : ℕ) (root : Node) → at ≡ Some j → counts name root j ≡ true
-    → first (filter (counts name root) (from_node side at root)) ≡ Some j
-nearest-here side name at j root is counted =
-    ap (λ o. first (filter (counts name root) (from_node side o root))) is
-    ∙ ap first (if-true (counts name root j) (j ∷ filter (counts name root) (nodes_beside side j root)) (filter (counts name root) (nodes_beside side j root)) counted)
+pub nearest-here : (side : Side) (alike : Option ℕ) (at : Option ℕ) (j : ℕ) (root : Node) → at ≡ Some j → counts alike root j ≡ true
+    → first (filter (counts alike root) (from_node side at root)) ≡ Some j
+nearest-here side alike at j root is counted =
+    ap (λ o. first (filter (counts alike root) (from_node side o root))) is
+    ∙ ap first (if-true (counts alike root j) (j ∷ filter (counts alike root) (nodes_beside side j root)) (filter (counts alike root) (nodes_beside side j root)) counted)
 
 pub from-less : (side : Side) (at : Option ℕ) (j : ℕ) (r : Option ℕ) (root : Node) → AreDistinct (ids root) → at ≡ Some j → r ≡ beside_of side j root
     → length (from_node side r root) < length (from_node side at root)
@@ -157,14 +156,14 @@ from-less side at j r root d is e =
     omega (arith, new, old)
 
 -- from the nearest on
-pub from-first : (side : Side) (name : Option Text) (i : ℕ) (r : Option ℕ) (root : Node) → AreDistinct (ids root) → r ≡ first (counted_beside side name i root)
-    → length (from_counted side name r root) ≡ length (counted_beside side name i root)
-from-first side name i r root d e =
-    ap (λ o. length (from_counted side name o root)) e ∙ ap length (counted-nearest side name i root d)
+pub from-first : (side : Side) (alike : Option ℕ) (i : ℕ) (r : Option ℕ) (root : Node) → AreDistinct (ids root) → r ≡ first (counted_beside side alike i root)
+    → length (from_counted side alike r root) ≡ length (counted_beside side alike i root)
+from-first side alike i r root d e =
+    ap (λ o. length (from_counted side alike o root)) e ∙ ap length (counted-nearest side alike i root d)
 
-pub counted-some : (side : Side) (name : Option Text) (at : Option ℕ) (j : ℕ) (root : Node) → at ≡ Some j
-    → length (from_counted side name at root) ≡ suc (length (counted_beside side name j root))
-counted-some side name at j root is = ap (λ o. length (from_counted side name o root)) is
+pub counted-some : (side : Side) (alike : Option ℕ) (at : Option ℕ) (j : ℕ) (root : Node) → at ≡ Some j
+    → length (from_counted side alike at root) ≡ suc (length (counted_beside side alike j root))
+counted-some side alike at j root is = ap (λ o. length (from_counted side alike o root)) is
 
-pub counted-none : (side : Side) (name : Option Text) (at : Option ℕ) (root : Node) → at ≡ None → length (from_counted side name at root) ≡ 0
-counted-none side name at root is = ap (λ o. length (from_counted side name o root)) is
+pub counted-none : (side : Side) (alike : Option ℕ) (at : Option ℕ) (root : Node) → at ≡ None → length (from_counted side alike at root) ≡ 0
+counted-none side alike at root is = ap (λ o. length (from_counted side alike o root)) is

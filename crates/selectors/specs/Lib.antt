@@ -2,3 +2,4 @@ pub mod Views
 pub mod Rules
 pub mod Rooms
 pub mod Siblings
+pub mod Names

@@ -1,9 +1,6 @@
 -- The siblings on a side of a node, the nearest first (Selectors 4, sections 3.2 and 14).
 use Rattle.std.specs.Prelude.{ℕ, List, [], ◌∷◌, filter, is_some, reverse, Option, Some, None, option_map, unwrap_or, Bool}
-use Rattle.std.specs.Borrow.{Bor}
-use Rattle.std.specs.Str.{chars}
 use Rattle.page_model.specs.Document.{Node, children_of, ids_of, name_at, next_of, parent_in, prev_of}
-use Rattle.page_model.specs.Trees.{Text}
 use Rattle.selectors_model.specs.Elements.{all_after, all_before, is_same_name}
 use Rattle.selectors.specs.declared.siblings.Side.{Side}
 use Rattle.selectors.specs.declared.siblings.Side.TheVariants.{Before, After}
@@ -21,19 +18,11 @@ abbrev pub beside_of : Side → ℕ → Node → Option ℕ
 beside_of Before i root = prev_of i root
 beside_of After i root = next_of i root
 
--- a node with this name, or none if it is a text, is one of those that are wanted: all elements, or
--- those with a name
-abbrev pub is_wanted : Option Text → Option Text → Bool
-is_wanted None actual = is_some actual
-is_wanted (Some name) actual = is_same_name (Some name) actual
+-- which nodes count: the elements, or those with the name of a given one
+abbrev pub counts : Option ℕ → Node → ℕ → Bool
+counts None root i = is_some (name_at i root)
+counts (Some alike) root i = is_same_name (name_at alike root) (name_at i root)
 
-abbrev pub counts : Option Text → Node → ℕ → Bool
-counts name root i = is_wanted name (name_at i root)
-
--- those that are wanted
-abbrev pub counted_beside : Side → Option Text → ℕ → Node → List ℕ
-counted_beside side name i root = filter (counts name root) (nodes_beside side i root)
-
--- the characters of a name that is wanted
-abbrev pub wanted : Option (Bor (List ℕ)) → Option Text
-wanted name = option_map (λ s. chars s.now) name
+-- those that count
+abbrev pub counted_beside : Side → Option ℕ → ℕ → Node → List ℕ
+counted_beside side alike i root = filter (counts alike root) (nodes_beside side i root)

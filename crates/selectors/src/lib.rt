@@ -2,6 +2,7 @@
 #![tactic(auto)]
 
 mod matched;
+mod names;
 mod rules;
 mod selector;
 mod siblings;

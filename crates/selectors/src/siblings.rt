@@ -1,11 +1,12 @@
 //! The siblings of an element that selectors count: texts do not count (Selectors 4, section 14).
 ghost use Rattle.dom_arena.specs.Docs.{IsDocument};
-ghost use Rattle.page_model.specs.Document.{first, next_of, prev_of};
-ghost use Rattle.selectors.specs.Siblings.{beside_of, counted_beside, counts, is_wanted, nodes_beside, wanted};
-ghost use Rattle.std.specs.Prelude.{List, Some, encode_utf8_all, length, ℕ, ◌≡◌, ◌≤◌};
+ghost use Rattle.page_model.specs.Document.{first, name_at};
+ghost use Rattle.selectors.specs.Siblings.{beside_of, counted_beside, counts};
+ghost use Rattle.selectors_model.specs.Elements.{is_same_name};
+ghost use Rattle.std.specs.Prelude.{length, ◌≡◌, ◌≤◌};
 ghost use Rattle.page_model.specs.declared.limits.TheConstants.{MAX_NODES};
 
-use crate::values::is_same;
+use crate::names::has_name;
 use dom_arena::Doc;
 use port_core::NodeId;
 
@@ -28,36 +29,35 @@ fn beside(doc: &Doc, id: NodeId, side: Side) -> Option<NodeId>
     }
 }
 
-/// Whether the name of an element is the one that is wanted; without one, each is.
-fn is_wanted_name(tag: &str, name: Option<&str>) -> bool
-    ensures { (cs : List ℕ) → tag.now ≡ encode_utf8_all cs
-        → result ≡ is_wanted (wanted name.entry) (Some cs) }
-{
-    match name {
-        Some(name) => is_same(name, tag),
-        None => true,
-    }
-}
-
-/// Whether the node `id` is an element, with this name if one is wanted.
-fn is_counted(doc: &Doc, id: NodeId, name: Option<&str>) -> bool
-    ensures { result ≡ counts (wanted name.entry) doc.now.document.root id }
+/// Whether two nodes are elements with the same name.
+fn has_same_name(doc: &Doc, id: NodeId, other: NodeId) -> bool
+    ensures { result ≡ is_same_name (name_at id doc.now.document.root) (name_at other doc.now.document.root) }
 {
     match doc.tag(id) {
-        Some(tag) => is_wanted_name(tag, name),
+        Some(name) => has_name(doc, other, name),
         None => false,
     }
 }
 
-/// Returns the nearest element on a side of the node `id`, with this name if one is wanted. Takes no
+/// Whether the node `id` counts: it is an element, and has the name of `alike` if one is given.
+fn is_counted(doc: &Doc, id: NodeId, alike: Option<NodeId>) -> bool
+    ensures { result ≡ counts alike doc.now.document.root id }
+{
+    match alike {
+        Some(alike) => has_same_name(doc, alike, id),
+        None => doc.tag(id).is_some(),
+    }
+}
+
+/// Returns the nearest element on a side of the node `id`, with the name of `alike` if one is given. Takes no
 /// memory; its time is linear in the siblings that it passes over.
-pub(crate) fn nearest(doc: &Doc, id: NodeId, side: Side, name: Option<&str>) -> Option<NodeId>
+pub(crate) fn nearest(doc: &Doc, id: NodeId, side: Side, alike: Option<NodeId>) -> Option<NodeId>
     requires document { IsDocument doc.now.document }
-    ensures { result ≡ first (counted_beside side (wanted name.entry) id doc.now.document.root) }
+    ensures { result ≡ first (counted_beside side alike id doc.now.document.root) }
 {
     let mut at = beside(doc, id, side);
     while let Some(sibling) = at {
-        if is_counted(doc, sibling, name) {
+        if is_counted(doc, sibling, alike) {
             return Some(sibling);
         }
         at = beside(doc, sibling, side);
@@ -65,18 +65,18 @@ pub(crate) fn nearest(doc: &Doc, id: NodeId, side: Side, name: Option<&str>) -> 
     None
 }
 
-/// Returns how many elements are on a side of the node `id`, with this name if one is wanted. Takes
+/// Returns how many elements are on a side of the node `id`, with the name of `alike` if one is given. Takes
 /// no memory; its time is linear in the siblings.
-pub(crate) fn count(doc: &Doc, id: NodeId, side: Side, name: Option<&str>) -> u32
+pub(crate) fn count(doc: &Doc, id: NodeId, side: Side, alike: Option<NodeId>) -> u32
     requires document { IsDocument doc.now.document }
-    ensures count { result ≡ length (counted_beside side (wanted name.entry) id doc.now.document.root) }
+    ensures count { result ≡ length (counted_beside side alike id doc.now.document.root) }
     ensures few { result ≤ MAX_NODES }
 {
     let mut count = 0;
-    let mut at = nearest(doc, id, side, name);
+    let mut at = nearest(doc, id, side, alike);
     while let Some(sibling) = at {
         count += 1;
-        at = nearest(doc, sibling, side, name);
+        at = nearest(doc, sibling, side, alike);
     }
     count
 }

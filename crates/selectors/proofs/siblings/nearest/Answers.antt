@@ -1,19 +1,19 @@
 use Rattle.std.proofs.Common.{◌∙◌, ap, filter, sym}
 use Rattle.page_model.specs.Document.{first}
-use Rattle.selectors.specs.Siblings.{counts, wanted}
+use Rattle.selectors.specs.Siblings.{counts}
 use Rattle.selectors.proofs.CountedBeside.{from-beside, from-less, nearest-here, nearest-later}
 use Rattle.selectors.proofs.siblings.nearest.Goals as goal
 
 pub loop-at-init : goal.loop-at-init
 loop-at-init c =
     let root = c.args.doc.now.document.root in
-    ap (λ js. first (filter (counts (wanted c.args.name) root) js))
+    ap (λ js. first (filter (counts c.args.alike root) js))
     (from-beside c.args.side c.args.id c.beside-at.result root c.requires.document.ids.0 c.beside-at.ensures)
 
 pub returns-then-is_counted : goal.returns-then-is_counted
 returns-then-is_counted c =
     let root = c.args.doc.now.document.root in
-    sym (nearest-here c.args.side (wanted c.args.name) c.loop-at.at c.in-Some.sibling root c.in-Some.is (sym c.is_counted.ensures ∙ c.if-is_counted.true))
+    sym (nearest-here c.args.side c.args.alike c.loop-at.at c.in-Some.sibling root c.in-Some.is (sym c.is_counted.ensures ∙ c.if-is_counted.true))
     ∙ c.loop-at.invariant
 
 pub loop-at-smaller : goal.loop-at-smaller
@@ -24,6 +24,6 @@ loop-at-smaller c =
 pub loop-at-preserved : goal.loop-at-preserved
 loop-at-preserved c =
     let root = c.args.doc.now.document.root in
-    ap first (nearest-later c.args.side (wanted c.args.name) c.loop-at.at c.in-Some.sibling c.beside-at-in-Some.result root c.requires.document.ids.0 c.in-Some.is
+    ap first (nearest-later c.args.side c.args.alike c.loop-at.at c.in-Some.sibling c.beside-at-in-Some.result root c.requires.document.ids.0 c.in-Some.is
     (sym c.is_counted.ensures ∙ c.if-is_counted.false) c.beside-at-in-Some.ensures)
     ∙ c.loop-at.invariant
