@@ -6,3 +6,5 @@ pub mod AncestorsOf
 pub mod AllBefore
 pub mod Rows
 pub mod CountedBeside
+pub mod PositionOf
+pub mod IsMultiple

@@ -3,3 +3,4 @@ pub mod Rules
 pub mod Rooms
 pub mod Siblings
 pub mod Names
+pub mod ElementsIn

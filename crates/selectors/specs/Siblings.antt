@@ -2,6 +2,8 @@
 use Rattle.std.specs.Prelude.{ℕ, List, [], ◌∷◌, filter, is_some, reverse, Option, Some, None, option_map, unwrap_or, Bool}
 use Rattle.page_model.specs.Document.{Node, children_of, ids_of, name_at, next_of, parent_in, prev_of}
 use Rattle.selectors_model.specs.Elements.{all_after, all_before, is_same_name}
+use Rattle.selectors_model.specs.declared.pseudo_class.Nth.{Nth}
+use Rattle.selectors_model.specs.declared.pseudo_class.Nth.TheVariants.{Child, LastChild, OfType, LastOfType}
 use Rattle.selectors.specs.declared.siblings.Side.{Side}
 use Rattle.selectors.specs.declared.siblings.Side.TheVariants.{Before, After}
 
@@ -26,3 +28,17 @@ counts (Some alike) root i = is_same_name (name_at alike root) (name_at i root)
 -- those that count
 abbrev pub counted_beside : Side → Option ℕ → ℕ → Node → List ℕ
 counted_beside side alike i root = filter (counts alike root) (nodes_beside side i root)
+
+-- ---- what each pseudo-class counts (sections 14.3 and 14.4)
+
+abbrev pub side_of : Nth → Side
+side_of Child = Before
+side_of LastChild = After
+side_of OfType = Before
+side_of LastOfType = After
+
+abbrev pub alike_of : Nth → ℕ → Option ℕ
+alike_of Child i = None
+alike_of LastChild i = None
+alike_of OfType i = Some i
+alike_of LastOfType i = Some i

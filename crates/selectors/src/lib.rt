@@ -3,6 +3,7 @@
 
 mod matched;
 mod names;
+mod positions;
 mod rules;
 mod selector;
 mod siblings;
