@@ -8,3 +8,5 @@ pub mod Rows
 pub mod CountedBeside
 pub mod PositionOf
 pub mod IsMultiple
+pub mod AnyOf
+pub mod Leftward

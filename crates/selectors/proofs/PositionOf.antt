@@ -1,7 +1,7 @@
 -- A position is one more than what counts before the element, or after it.
 use Rattle.std.proofs.Common.{◌≡◌, ◌∙◌, ◌++◌, ◌∷◌, Bool, IsSome, List, None, Option, Some, [], ap, cond, eq-eqb, false, filter, inl, inr, is_none, is_some, ◌+◌, ◌==◌, ◌-ℤ◌, ap₂, arith, nat_abs, not, length, ne_eqb, pos, refl, reverse, subst, suc, sym, true, ℕ}
 use Rattle.std.proofs.lemmas.Bool.{cases_Bool, false≢true}
-use Rattle.std.proofs.lemmas.List.{append-nil}
+use Rattle.std.proofs.lemmas.List.{append-nil, length-reverse}
 use Rattle.std.proofs.lemmas.List.Elements.{filter-append}
 use Rattle.page_laws.proofs.AttributesInOrder.{text-same}
 use Rattle.page_laws.proofs.Options.{none-or-some}
@@ -20,22 +20,25 @@ use Rattle.selectors_model.specs.declared.pseudo_class.Nth.TheVariants.{Child, L
 
 -- ---- lists
 
-length-last : (js : List ℕ) (j : ℕ) → length (js ++ j ∷ []) ≡ suc (length js)
-length-last [] j = refl
-length-last (k ∷ js) j = ap suc (length-last js j)
+pub filter-turned : (p : ℕ → Bool) (js : List ℕ) → filter p (reverse js) ≡ reverse (filter p js)
+filter-turned p [] = refl
+filter-turned p (j ∷ js) = elim (cases_Bool (p j)) [
+  | inl t ↦
+      ap (filter p) (reverse-cons j js)
+      ∙ (filter-append p (reverse js) (j ∷ [])
+      ∙ (ap (λ ks. filter p (reverse js) ++ ks) (if-true (p j) (j ∷ []) [] t)
+      ∙ (ap (λ ks. ks ++ j ∷ []) (filter-turned p js)
+      ∙ (sym (reverse-cons j (filter p js)) ∙ ap reverse (sym (if-true (p j) (j ∷ filter p js) (filter p js) t))))))
+  | inr f ↦
+      ap (filter p) (reverse-cons j js)
+      ∙ (filter-append p (reverse js) (j ∷ [])
+      ∙ (ap (λ ks. filter p (reverse js) ++ ks) (if-false (p j) (j ∷ []) [] f)
+      ∙ (append-nil (filter p (reverse js))
+      ∙ (filter-turned p js ∙ ap reverse (sym (if-false (p j) (j ∷ filter p js) (filter p js) f))))))
+]
 
 filter-reverse : (p : ℕ → Bool) (js : List ℕ) → length (filter p (reverse js)) ≡ length (filter p js)
-filter-reverse p [] = refl
-filter-reverse p (j ∷ js) = elim (cases_Bool (p j)) [
-  | inl t ↦
-      ap (λ ks. length (filter p ks)) (reverse-cons j js)
-      ∙ (ap length (filter-append p (reverse js) (j ∷ []) ∙ ap (λ ks. filter p (reverse js) ++ ks) (if-true (p j) (j ∷ []) [] t))
-      ∙ (length-last (filter p (reverse js)) j ∙ (ap suc (filter-reverse p js) ∙ sym (ap length (if-true (p j) (j ∷ filter p js) (filter p js) t)))))
-  | inr f ↦
-      ap (λ ks. length (filter p ks)) (reverse-cons j js)
-      ∙ (ap length (filter-append p (reverse js) (j ∷ []) ∙ ap (λ ks. filter p (reverse js) ++ ks) (if-false (p j) (j ∷ []) [] f) ∙ append-nil (filter p (reverse js)))
-      ∙ (filter-reverse p js ∙ sym (ap length (if-false (p j) (j ∷ filter p js) (filter p js) f))))
-]
+filter-reverse p js = ap length (filter-turned p js) ∙ length-reverse (filter p js)
 
 filter-both : (p q : ℕ → Bool) (js : List ℕ) → ((j : ℕ) → p j ≡ true → q j ≡ true) → filter p (filter q js) ≡ filter p js
 filter-both p q [] h = refl

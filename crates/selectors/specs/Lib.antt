@@ -4,3 +4,4 @@ pub mod Rooms
 pub mod Siblings
 pub mod Names
 pub mod ElementsIn
+pub mod Walks

@@ -2,6 +2,7 @@
 #![tactic(auto)]
 
 mod matched;
+mod matching;
 mod names;
 mod positions;
 mod rules;
