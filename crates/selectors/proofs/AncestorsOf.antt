@@ -1,13 +1,13 @@
 -- The ancestors of a node: those of its parent, and its parent.
-use Rattle.std.proofs.Common.{◌+◌, ◌==◌, ◌≡◌, ◌∙◌, ◌++◌, ◌∷◌, ◌≤◌, ◌||◌, IsSome, List, None, Option, Some, [], ap, arith, cond, false, inl, inr, length, length-append, option_and_then, refl, subst, suc, sym, true, zero, ℕ}
+use Rattle.std.proofs.Common.{eqb-true, is_none, nat_eq, ◌+◌, ◌==◌, ◌≡◌, ◌∙◌, ◌++◌, ◌∷◌, ◌≤◌, ◌||◌, IsSome, List, None, Option, Some, [], ap, arith, cond, false, inl, inr, length, length-append, option_and_then, refl, subst, suc, sym, true, zero, ℕ}
 use Rattle.std.proofs.lemmas.Bool.{cases_Bool, eqb-false, false≢true}
 use Rattle.std.proofs.lemmas.List.{append-nil}
 use Rattle.std.proofs.lemmas.Option.{none-some, same_Some}
-use Rattle.page_laws.proofs.Find.{among-children, among-top}
+use Rattle.page_laws.proofs.Find.{among-children, among-top, named-some, some-among}
 use Rattle.page_laws.proofs.IsAmong.{among-is_among, among-left, among-right, among-split, distinct-apart, distinct-left, distinct-right, is_among-true, not-among}
 use Rattle.page_laws.proofs.Options.{if-found, none-or-some, or-false, or-found}
-use Rattle.page_laws.proofs.ParentOf.{all_parent-among, parent-among, parent-node}
-use Rattle.page_model.specs.Document.{AreDistinct, IsAmong, Node, Nodes, all_ids, element, id_of, ids, ids_of, is_among, name_at, name_of, no_nodes, node, or_else, parent_below, parent_in, parent_of, text}
+use Rattle.page_laws.proofs.ParentOf.{all_parent-among, child-lower, parent-among, parent-child, parent-found, parent-node}
+use Rattle.page_model.specs.Document.{AreDistinct, IsAmong, Node, Nodes, all_ids, element, find, id_of, ids, ids_of, is_among, name_at, name_of, no_nodes, node, or_else, parent_below, parent_in, parent_of, text}
 use Rattle.selectors_model.specs.Elements.{ancestors_among, ancestors_of}
 
 -- ---- what is not in a tree has no ancestors in it
@@ -187,3 +187,26 @@ ancestors-transitive root i a b d h k =
       | inr (inr none) ↦ absurd none
     ])))
     (length (ancestors_of i root)) i (omega arith) h
+
+-- ---- the root
+
+top-orphan : (n : Node) → AreDistinct (ids n) → parent_in (id_of n) n ≡ None
+top-orphan n d = elim (none-or-some (parent_in (id_of n) n)) [
+  | inl none ↦ none
+  | inr some ↦
+      absurd (child-lower (id_of some.0) (id_of n) n some.0 d (parent-found (id_of n) n some.0 d some.1) (parent-child (id_of n) n some.0 some.1) refl)
+]
+
+-- an element is the root exactly where it has no parent
+pub root-orphan : (i r : ℕ) (root : Node) → AreDistinct (ids root) → r ≡ id_of root → IsSome (name_at i root) → nat_eq i r ≡ is_none (parent_in i root)
+root-orphan i r root d e own = elim (cases_Bool (nat_eq i r)) [
+  | inl t ↦
+      let top : i ≡ id_of root = eqb-true i r t ∙ e in
+      t ∙ sym (ap is_none (ap (λ j. parent_in j root) top ∙ top-orphan root d))
+  | inr f ↦ elim (none-or-some (parent_in i root)) [
+    | inl none ↦
+        let found = named-some (find i root) own in
+        absurd (eqb-false i r f (orphan-top i root none (some-among i root found.0 found.1.0) ∙ sym e))
+    | inr some ↦ f ∙ sym (ap is_none some.1)
+  ]
+]

@@ -1,7 +1,8 @@
 -- How texts compare by their bytes and by their characters.
-use Rattle.std.proofs.Common.{arith, eq-eqb, ne_eqb, ◌==◌, ◌≡◌, ◌≢◌, ◌∙◌, ◌↔◌, ap, sym, subst, refl, inl, inr, ℕ, ◌-◌, ◌||◌, length, take, drop, append_assoc, List, [], ◌∷◌, ◌++◌, Bool, true, false}
+use Rattle.std.proofs.Common.{codes, None, Some, Option, option_map, arith, eq-eqb, ne_eqb, ◌==◌, ◌≡◌, ◌≢◌, ◌∙◌, ◌↔◌, ap, sym, subst, refl, inl, inr, ℕ, ◌-◌, ◌||◌, length, take, drop, append_assoc, List, [], ◌∷◌, ◌++◌, Bool, true, false}
 use Rattle.std.proofs.lemmas.Bool.{cases_Bool, false≢true}
 use Rattle.std.proofs.lemmas.Str.{chars-append, chars-nil, encodes-append, encodes-chars}
+use Rattle.std.proofs.lemmas.Option.{none-some, same_Some}
 use Rattle.std.proofs.lemmas.Bool.Decides.{Decides-eqb}
 use Rattle.std.proofs.lemmas.Slice.Eq.{bytes_eq-Decides, ends_is, starts_is}
 use Rattle.std.specs.List.{ends_with, starts_with}
@@ -136,3 +137,16 @@ no-dash-after bs ns u v lacks = elim (cases_Bool (starts_with nat_eq (chars bs) 
       (starts-parts (chars bs) (chars ns ++ hyphen ∷ []) t ∙ append_assoc (chars ns) (hyphen ∷ []) rest)))
   | inr f ↦ sym f
 ]
+
+-- the characters of bytes that were given
+pub spelled-some : (o : Option (List ℕ)) (bs : List ℕ) → Some bs ≡ option_map encode_utf8_all o → (cs : List ℕ) × (o ≡ Some cs) × (bs ≡ encode_utf8_all cs)
+spelled-some None bs e = absurd (none-some bs (sym e))
+spelled-some (Some cs) bs e = (cs, refl, same_Some bs (encode_utf8_all cs) e)
+
+pub id-chars : chars (codes "id") ≡ codes "id"
+unfolding chars
+id-chars = refl
+
+pub class-chars : chars (codes "class") ≡ codes "class"
+unfolding chars
+class-chars = refl

@@ -10,3 +10,4 @@ pub mod PositionOf
 pub mod IsMultiple
 pub mod AnyOf
 pub mod Leftward
+pub mod WalkSteps

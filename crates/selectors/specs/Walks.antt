@@ -64,11 +64,11 @@ Checks root s goal (checked.Left b) = IsOpen root s goal b
 -- a walk came to a goal: it decides what the walk began with, and where the selector of the walk's
 -- goal matches further out, so does the one of this goal
 pub record Leads (root : Node) (s : Selector) (target above : Bool) (links levels : ℕ) (to : Goal) : Type 0 where
-  pub same : target ≡ goal_matches root s to
-  pub above : above ≡ true → matches_above root (prefix_of s to.links) to.at ≡ true
+  pub decides : target ≡ goal_matches root s to
+  pub farther : above ≡ true → matches_above root (prefix_of s to.links) to.at ≡ true
   pub element : IsSome (name_at to.at root)
-  pub links : to.links ≤ links
-  pub levels : length (ancestors_of to.at root) ≤ levels
+  pub shorter : to.links ≤ links
+  pub higher : length (ancestors_of to.at root) ≤ levels
 
 -- combinators at which a walk along `+`, among siblings, and among siblings and parents stops
 abbrev pub ends_chain : Combinator → Bool
@@ -96,12 +96,46 @@ Reaches root s ends target above links levels reached.Fails = target ≡ false
 Reaches root s ends target above links levels (reached.Open to b) =
     Leads root s target above links levels to × IsOpen root s to b × (ends b ≡ true)
 
--- where the goal's selector matches in the row of its element, so does that of the goal that was
--- reached, which is no further to the right
+-- a goal in the same row: where the selector of the first matches in it, so does that of the second,
+-- and the second is no further to the right
+pub record IsInRow (root : Node) (s : Selector) (goal to : Goal) : Type 0 where
+  pub row : matches_in_row root (prefix_of s goal.links) goal.at ≡ true → matches_in_row root (prefix_of s to.links) to.at ≡ true
+  pub before : length (elements_before root to.at) ≤ length (elements_before root goal.at)
+  pub ancestors : ancestors_of to.at root ≡ ancestors_of goal.at root
+
 abbrev pub KeepsRow : Node → Selector → Goal → Reached → Type 0
 KeepsRow root s goal reached.Matches = Unit {0}
 KeepsRow root s goal reached.Fails = Unit {0}
-KeepsRow root s goal (reached.Open to b) =
-    (matches_in_row root (prefix_of s goal.links) goal.at ≡ true → matches_in_row root (prefix_of s to.links) to.at ≡ true)
-    × (length (elements_before root to.at) ≤ length (elements_before root goal.at))
-    × (ancestors_of to.at root ≡ ancestors_of goal.at root)
+KeepsRow root s goal (reached.Open to b) = IsInRow root s goal to
+
+-- ---- each walk
+
+-- a goal of the selector that has a combinator
+abbrev pub IsWithin : Selector → ℕ → Type 0
+IsWithin s k = (0 < k) × (k ≤ length (links_of s))
+
+-- a walk from one goal came to another
+abbrev pub LeadsFrom : Node → Selector → Goal → Goal → Type 0
+LeadsFrom root s goal to =
+    Leads root s (goal_matches root s goal) (matches_above root (prefix_of s goal.links) goal.at)
+    goal.links (length (ancestors_of goal.at root)) to
+
+abbrev pub WalksFrom : Node → Selector → (Combinator → Bool) → Goal → Reached → Type 0
+WalksFrom root s ends goal reached =
+    Reaches root s ends (goal_matches root s goal) (matches_above root (prefix_of s goal.links) goal.at)
+    goal.links (length (ancestors_of goal.at root)) reached
+
+abbrev pub WalksChain : Node → Selector → Goal → Reached → Type 0
+WalksChain root s goal reached = WalksFrom root s ends_chain goal reached
+
+abbrev pub WalksRow : Node → Selector → Goal → Reached → Type 0
+WalksRow root s goal reached = WalksFrom root s ends_row goal reached
+
+abbrev pub Climbs : Node → Selector → Goal → Reached → Type 0
+Climbs root s goal reached = WalksFrom root s ends_climb goal reached
+
+-- of the elements before an open goal
+abbrev pub WalksBefore : Node → Selector → Goal → Reached → Type 0
+WalksBefore root s right reached =
+    Reaches root s ends_row (matches_one root s (right.links - 1) (elements_before root right.at))
+    (matches_above root (prefix_of s (right.links - 1)) right.at) (right.links - 1) (length (ancestors_of right.at root)) reached

@@ -12,6 +12,7 @@ mod specificities;
 mod values;
 
 pub use matched::Matched;
+pub use matching::matches;
 pub use rules::{Rule, RuleList};
 pub use selector::{Compound, Link, Selector, SelectorList, Simple};
 pub use specificities::specificity;

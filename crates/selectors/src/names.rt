@@ -3,8 +3,9 @@ ghost use Rattle.page_model.specs.Document.{name_at, value_at};
 ghost use Rattle.page_model.specs.Trees.{Text as text};
 ghost use Rattle.selectors_model.specs.Elements.{is_same_name};
 ghost use Rattle.selectors_model.specs.Matching as model;
+ghost use Rattle.selectors_model.specs.declared.attribute_matcher.AttributeMatcher.TheVariants.{Equals, Includes};
 ghost use Rattle.selectors.specs.Names.{IsSpelled};
-ghost use Rattle.std.specs.Prelude.{List, Some, is_some, ℕ, ◌≡◌};
+ghost use Rattle.std.specs.Prelude.{List, Some, codes, is_some, ℕ, ◌≡◌};
 ghost use Rattle.std.specs.Str.{chars};
 
 use crate::values::value_matches;
@@ -27,6 +28,16 @@ pub(crate) fn has_name(doc: &Doc, id: NodeId, name: &str) -> bool
 {
     match doc.tag(id) {
         Some(tag) => is_name(tag, name),
+        None => false,
+    }
+}
+
+/// Whether the node `id` is an element of the type with this name (Selectors 4, section 5.1).
+pub(crate) fn has_type(doc: &Doc, id: NodeId, name: &str) -> bool
+    ensures { result ≡ is_same_name (name_at id doc.now.document.root) (Some (chars name.now)) }
+{
+    match doc.tag(id) {
+        Some(tag) => is_name(name, tag),
         None => false,
     }
 }
@@ -55,6 +66,22 @@ pub(crate) fn attribute_matches(
         Some(actual) => compares(matcher, actual, value),
         None => false,
     }
+}
+
+/// Whether the element `id` has this id (Selectors 4, section 6.7).
+pub(crate) fn has_id(doc: &Doc, id: NodeId, value: &str) -> bool
+    ensures { result ≡ model.attribute_matches Equals
+        (value_at (codes "id") id doc.now.document.root) (chars value.now) }
+{
+    attribute_matches(doc, id, "id", AttributeMatcher::Equals, value)
+}
+
+/// Whether the element `id` has this class (Selectors 4, section 6.6).
+pub(crate) fn has_class(doc: &Doc, id: NodeId, name: &str) -> bool
+    ensures { result ≡ model.attribute_matches Includes
+        (value_at (codes "class") id doc.now.document.root) (chars name.now) }
+{
+    attribute_matches(doc, id, "class", AttributeMatcher::Includes, name)
 }
 
 /// Whether the element `id` has the attribute `name` (Selectors 4, section 6.1).
