@@ -1,7 +1,7 @@
 -- What is before and what is after an id in a list.
-use Rattle.std.proofs.Common.{◌==◌, ◌≡◌, ◌∙◌, ◌++◌, ◌∷◌, ◌≤◌, ◌+◌, ◌⊎◌, Bool, List, None, Option, Some, [], ap, append_assoc, arith, cond, eq-eqb, eqb-true, false, filter, inl, inr, length, length-append, ne_eqb, refl, reverse, subst, suc, sym, true, ℕ}
-use Rattle.std.proofs.lemmas.Bool.{cases_Bool, eqb-false, false≢true}
-use Rattle.std.proofs.lemmas.List.{append-nil, length-reverse, reverse-append, reverse-reverse}
+use Rattle.std.proofs.Common.{◌==◌, ◌≡◌, ◌∙◌, ◌++◌, ◌∷◌, ◌≤◌, ◌+◌, ◌⊎◌, Bool, List, None, Option, Some, [], ap, arith, cond, eq-eqb, eqb-true, false, filter, inl, inr, length, length-append, ne_eqb, refl, reverse, subst, sym, true, ℕ}
+use Rattle.std.proofs.lemmas.Bool.{cases_Bool, eqb-false}
+use Rattle.std.proofs.lemmas.List.{append-nil, reverse-append, reverse-reverse}
 use Rattle.std.proofs.lemmas.Option.{none-some, same_Some}
 use Rattle.std.specs.Prelude.{option_to_list}
 use Rattle.page_laws.proofs.IsAmong.{among-right}

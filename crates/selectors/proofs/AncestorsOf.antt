@@ -1,5 +1,5 @@
 -- The ancestors of a node: those of its parent, and its parent.
-use Rattle.std.proofs.Common.{eqb-true, is_none, nat_eq, ◌+◌, ◌==◌, ◌≡◌, ◌∙◌, ◌++◌, ◌∷◌, ◌≤◌, ◌||◌, IsSome, List, None, Option, Some, [], ap, arith, cond, false, inl, inr, length, length-append, option_and_then, refl, subst, suc, sym, true, zero, ℕ}
+use Rattle.std.proofs.Common.{eqb-true, is_none, nat_eq, ◌+◌, ◌==◌, ◌≡◌, ◌∙◌, ◌++◌, ◌∷◌, ◌≤◌, IsSome, List, None, Option, Some, [], ap, arith, false, inl, inr, length, length-append, option_and_then, refl, subst, suc, sym, zero, ℕ}
 use Rattle.std.proofs.lemmas.Bool.{cases_Bool, eqb-false, false≢true}
 use Rattle.std.proofs.lemmas.List.{append-nil}
 use Rattle.std.proofs.lemmas.Option.{none-some, same_Some}

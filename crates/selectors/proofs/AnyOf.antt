@@ -1,5 +1,5 @@
 -- One of a list passes a test.
-use Rattle.std.proofs.Common.{◌≡◌, ◌∙◌, ◌++◌, ◌∷◌, ◌||◌, Bool, List, [], ap, cond, false, filter, inl, inr, refl, subst, sym, true, ℕ}
+use Rattle.std.proofs.Common.{◌≡◌, ◌∙◌, ◌++◌, ◌∷◌, ◌||◌, Bool, List, [], ap, false, filter, inl, inr, refl, subst, sym, true, ℕ}
 use Rattle.std.proofs.lemmas.Bool.{cases_Bool, false≢true}
 use Rattle.std.specs.List.{list_any}
 use Rattle.page_laws.proofs.Options.{true-or, true-or-left, true-or-right}

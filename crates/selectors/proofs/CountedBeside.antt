@@ -1,15 +1,15 @@
 -- What is counted beside a node comes one after another, the nearest first.
-use Rattle.std.proofs.Common.{◌<◌, suc, ◌≡◌, ◌∙◌, ◌++◌, ◌∷◌, ◌≤◌, ◌+◌, Bool, List, None, Option, Some, [], ap, arith, cond, false, filter, inl, inr, length, refl, reverse, subst, sym, true, encode_utf8_all, option_map, option_and_then, eq-eqb, ℕ}
+use Rattle.std.proofs.Common.{◌<◌, suc, ◌≡◌, ◌∙◌, ◌++◌, ◌∷◌, ◌≤◌, Bool, List, None, Option, Some, [], ap, arith, false, filter, inl, inr, length, refl, reverse, subst, sym, true, eq-eqb, ℕ}
 use Rattle.std.proofs.lemmas.Bool.{cases_Bool}
 use Rattle.std.proofs.lemmas.List.{length-reverse}
 use Rattle.std.proofs.lemmas.List.Sums.{count_by-le-length, length-filter}
-use Rattle.std.proofs.lemmas.Option.{none-some, same_Some}
+use Rattle.std.proofs.lemmas.Option.{none-some}
 use Rattle.page_laws.proofs.IsAmong.{among-split}
 use Rattle.page_laws.proofs.ParentOf.{parent-child}
 use Rattle.page_laws.proofs.Options.{none-or-some}
-use Rattle.page_model.specs.Document.{AreDistinct, IsAmong, Node, after, before, children_of, first, ids, ids_of, next_of, parent_in, prev_of}
+use Rattle.page_model.specs.Document.{AreDistinct, IsAmong, Node, children_of, first, ids, ids_of, parent_in}
 use Rattle.selectors.proofs.AllBefore.{head-same, if-false, if-true, reverse-cons, tail, after-back, after-member, after-nearest, after-short, before-back-reverse, before-member, before-nearest, before-short}
-use Rattle.selectors.proofs.Rows.{row-distinct, row-row, row-self, row-short}
+use Rattle.selectors.proofs.Rows.{row-distinct, row-row, row-short}
 use Rattle.selectors.specs.Siblings.{beside_of, counted_beside, counts, nodes_beside, row_of}
 use Rattle.selectors.specs.declared.siblings.Side.{Side}
 use Rattle.selectors.specs.declared.siblings.Side.TheVariants.{Before, After}

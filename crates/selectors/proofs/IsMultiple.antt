@@ -1,5 +1,5 @@
 -- Multiples of a negative step.
-use Rattle.std.proofs.Common.{arith, ltb-true, ◌≡◌, ◌∙◌, ◌==◌, ◌/◌, ◌%◌, ◌&&◌, ◌<ℤ◌, ap, neg_ℤ, refl, sym, ℕ, suc, zero, ℤ, pos, negsuc, nat_abs, int_le, true}
+use Rattle.std.proofs.Common.{arith, ◌≡◌, ◌==◌, ◌/◌, ◌%◌, ◌&&◌, ◌<ℤ◌, ap, neg_ℤ, refl, sym, ℕ, suc, zero, ℤ, pos, negsuc, nat_abs, int_le}
 use Rattle.std.proofs.Math.Nat.{zero-div}
 use Rattle.selectors_model.specs.AnPlusBs.{is_multiple}
 

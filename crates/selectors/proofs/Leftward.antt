@@ -1,16 +1,16 @@
 -- What is known further out where a selector is matched from its right to its left.
-use Rattle.std.proofs.Common.{◌≡◌, ◌∙◌, ◌++◌, ◌∷◌, ◌||◌, ◌&&◌, Bool, IsSome, List, None, Option, Some, [], ap, false, filter, inl, inr, is_some, option_and_then, refl, reverse, subst, sym, true, ℕ}
-use Rattle.std.proofs.lemmas.Bool.{cases_Bool, false≢true}
+use Rattle.std.proofs.Common.{◌≡◌, ◌∙◌, ◌++◌, ◌∷◌, Bool, IsSome, List, None, Option, Some, [], ap, false, inl, inr, refl, reverse, subst, sym, true, ℕ}
+use Rattle.std.proofs.lemmas.Bool.{false≢true}
 use Rattle.std.proofs.lemmas.List.{reverse-reverse}
 use Rattle.std.proofs.lemmas.Option.{none-some, same_Some}
 use Rattle.std.specs.List.{list_any}
 use Rattle.std.specs.Prelude.{option_to_list}
-use Rattle.page_laws.proofs.IsAmong.{among-left, among-right, among-split}
-use Rattle.page_laws.proofs.Options.{both-true, none-or-some, true-or, true-or-left, true-or-right}
+use Rattle.page_laws.proofs.IsAmong.{among-right, among-split}
+use Rattle.page_laws.proofs.Options.{both-true, true-or, true-or-left, true-or-right}
 use Rattle.page_model.specs.Document.{AreDistinct, IsAmong, Node, before, first, ids, name_at, parent_of}
 use Rattle.selectors.proofs.AllBefore.{before-among, before-back, before-filter, before-member, before-nearest, before-transitive, reverse-cons}
-use Rattle.selectors.proofs.AncestorsOf.{ancestor-element, ancestors-orphan, ancestors-parent, ancestors-transitive}
-use Rattle.selectors.proofs.AnyOf.{any-found, any-from, any-last, any-more, filter-among, filter-distinct, filter-member}
+use Rattle.selectors.proofs.AncestorsOf.{ancestor-element, ancestors-parent, ancestors-transitive}
+use Rattle.selectors.proofs.AnyOf.{any-found, any-more, filter-among, filter-distinct, filter-member}
 use Rattle.selectors.proofs.PositionOf.{filter-turned}
 use Rattle.selectors.proofs.Rows.{row-ancestors, row-distinct, row-parent_of, row-self, row-siblings, siblings-row}
 use Rattle.selectors.specs.Siblings.{counted_beside, counts, row_of}

@@ -11,3 +11,4 @@ pub mod IsMultiple
 pub mod AnyOf
 pub mod Leftward
 pub mod WalkSteps
+pub mod PrefixOf

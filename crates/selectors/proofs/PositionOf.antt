@@ -1,15 +1,14 @@
 -- A position is one more than what counts before the element, or after it.
-use Rattle.std.proofs.Common.{◌≡◌, ◌∙◌, ◌++◌, ◌∷◌, Bool, IsSome, List, None, Option, Some, [], ap, cond, eq-eqb, false, filter, inl, inr, is_none, is_some, ◌+◌, ◌==◌, ◌-ℤ◌, ap₂, arith, nat_abs, not, length, ne_eqb, pos, refl, reverse, subst, suc, sym, true, ℕ}
+use Rattle.std.proofs.Common.{◌≡◌, ◌∙◌, ◌++◌, ◌∷◌, Bool, IsSome, List, None, Option, Some, [], ap, false, filter, inl, inr, is_none, is_some, ◌+◌, ◌==◌, ◌-ℤ◌, ap₂, arith, nat_abs, not, length, ne_eqb, pos, refl, reverse, suc, sym, true, ℕ}
 use Rattle.std.proofs.lemmas.Bool.{cases_Bool, false≢true}
 use Rattle.std.proofs.lemmas.List.{append-nil, length-reverse}
 use Rattle.std.proofs.lemmas.List.Elements.{filter-append}
 use Rattle.page_laws.proofs.AttributesInOrder.{text-same}
-use Rattle.page_laws.proofs.Options.{none-or-some}
 use Rattle.page_model.specs.Document.{AreDistinct, Node, first, ids, name_at}
 use Rattle.page_model.specs.Trees.{Text}
 use Rattle.selectors.proofs.AllBefore.{after-filter, before-filter, if-false, if-true, reverse-cons}
 use Rattle.selectors.proofs.Rows.{siblings-row}
-use Rattle.selectors.specs.Siblings.{alike_of, side_of, counted_beside, counts, nodes_beside, row_of}
+use Rattle.selectors.specs.Siblings.{alike_of, side_of, counted_beside, counts, row_of}
 use Rattle.selectors.specs.declared.siblings.Side.{Side}
 use Rattle.selectors.specs.declared.siblings.Side.TheVariants.{Before, After}
 use Rattle.selectors_model.specs.Elements.{all_after, all_before, is_same_name, position_of, siblings_of, siblings_of_type}

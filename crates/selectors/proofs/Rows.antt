@@ -1,5 +1,5 @@
 -- The row of a node: its siblings have the same row, the same parent and the same ancestors.
-use Rattle.std.proofs.Common.{◌⊎◌, ◌≡◌, ◌∙◌, ◌++◌, ◌∷◌, ◌≤◌, ◌+◌, Bool, IsSome, List, None, Option, Some, [], ap, arith, false, filter, inl, inr, is_some, length, length-append, option_and_then, option_map, refl, subst, suc, sym, true, unwrap_or, ℕ}
+use Rattle.std.proofs.Common.{◌⊎◌, ◌≡◌, ◌∙◌, ◌∷◌, ◌≤◌, IsSome, List, None, Option, Some, [], ap, arith, false, filter, inl, inr, is_some, length, length-append, option_and_then, option_map, refl, subst, suc, sym, true, unwrap_or, ℕ}
 use Rattle.std.proofs.lemmas.Option.{none-some, same_Some}
 use Rattle.dom_arena.proofs.Found.{find-children}
 use Rattle.dom_arena.specs.Found.{AreFound}
@@ -7,7 +7,7 @@ use Rattle.page_laws.proofs.Find.{find-distinct}
 use Rattle.page_laws.proofs.Options.{if-found, none-or-some, or-found}
 use Rattle.page_laws.proofs.ParentOf.{found-parent, parent-child, parent-found}
 use Rattle.page_laws.proofs.Siblings.{children-distinct}
-use Rattle.page_model.specs.Document.{AreDistinct, IsAmong, Node, Nodes, all_ids, children_of, element, find, id_of, ids, ids_of, is_among, name_at, name_of, no_nodes, node, parent_below, parent_in, parent_of, text}
+use Rattle.page_model.specs.Document.{AreDistinct, IsAmong, Node, Nodes, all_ids, children_of, element, id_of, ids, ids_of, is_among, name_at, name_of, no_nodes, node, parent_below, parent_in, parent_of, text}
 use Rattle.selectors.specs.Siblings.{counts, row_of}
 use Rattle.selectors.proofs.AncestorsOf.{ancestors-orphan, ancestors-parent}
 use Rattle.selectors_model.specs.Elements.{ancestors_of, element_ids, siblings_of}

@@ -1,25 +1,24 @@
 -- The steps of a walk to the left.
-use Rattle.std.proofs.Common.{◌≡◌, ◌∙◌, ◌++◌, ◌∷◌, ◌||◌, ◌<◌, ◌≤◌, ◌-◌, ◌+◌, Bool, IsSome, List, None, Option, Some, [], ap, ap₂, arith, false, fold, inl, inr, length, length-append, map, option_and_then, refl, subst, suc, sym, take, true, ℕ}
+use Rattle.std.proofs.Common.{◌≡◌, ◌∙◌, ◌++◌, ◌∷◌, ◌||◌, ◌<◌, ◌≤◌, ◌-◌, ◌+◌, Bool, IsSome, None, Some, [], ap, arith, false, inl, inr, length, length-append, refl, subst, sym, true, ℕ}
 use Rattle.std.proofs.lemmas.Bool.{false≢true}
 use Rattle.std.specs.List.{list_any}
 use Rattle.std.specs.Prelude.{option_to_list}
-use Rattle.page_laws.proofs.Options.{true-or, true-or-left, true-or-right}
-use Rattle.page_model.specs.Document.{AreDistinct, IsAmong, Node, first, ids, name_at, parent_of}
+use Rattle.page_laws.proofs.Options.{true-or, true-or-left}
+use Rattle.page_model.specs.Document.{AreDistinct, Node, first, ids, name_at, parent_of}
 use Rattle.selectors.proofs.AncestorsOf.{ancestors-orphan, ancestors-parent, parent-element}
 use Rattle.selectors.proofs.AnyOf.{any-last, any-one}
-use Rattle.selectors.proofs.Leftward.{IsNearest, above-child, above-descendant, above-sibling, any-above, is_sibling, left-next, nearest-before, none-before, row-sibling, row-upward}
+use Rattle.selectors.proofs.Leftward.{above-child, above-descendant, above-sibling, any-above, is_sibling, left-next, nearest-before, none-before, row-sibling, row-upward}
 use Rattle.selectors.proofs.Rows.{row-ancestors}
 use Rattle.selectors.proofs.Utf8.{same-bool}
 use Rattle.selectors.specs.Siblings.{counted_beside}
-use Rattle.selectors.specs.Walks.{IsInRow, IsOpen, Leads, LeadsFrom, Reaches, WalksBefore, WalksRow, ends_row, elements_before, goal_matches, links_of, matches_above, matches_in_row, matches_one, prefix_of}
+use Rattle.selectors.specs.Walks.{IsInRow, IsOpen, Leads, LeadsFrom, Reaches, WalksBefore, WalksRow, ends_chain, ends_climb, ends_row, elements_before, goal_matches, matches_above, matches_in_row, matches_one, prefix_of}
 use Rattle.selectors.specs.declared.matching.Goal.{Goal}
 use Rattle.selectors.specs.declared.matching.Reached.{Reached}
 use Rattle.selectors.specs.declared.matching.Reached.TheVariants as reached
 use Rattle.selectors.specs.declared.selector.Selector.{Selector}
 use Rattle.selectors.specs.declared.siblings.Side.TheVariants.{Before}
-use Rattle.selectors_model.specs.Elements.{ancestors_of, left_of}
+use Rattle.selectors_model.specs.Elements.{ancestors_of}
 use Rattle.selectors_model.specs.Matching.{matches}
-use Rattle.selectors_model.specs.Selectors.{combined}
 use Rattle.selectors_model.specs.declared.combinator.Combinator.{Combinator}
 use Rattle.selectors_model.specs.declared.combinator.Combinator.TheVariants.{Descendant, Child, NextSibling, SubsequentSibling}
 
@@ -308,3 +307,24 @@ above-open root s right links below p to d k up l o =
           (λ t. true-or-left (goal_matches root s (goal_at links p)) (matches_one root s links (ancestors_of p root)) (here ∙ t)));
       shorter = omega (arith, shorter, shorter');
     }
+
+-- a walk among siblings and parents stops at white space alone
+pub climb-descendant : (root : Node) (s : Selector) (goal : Goal) (b : Combinator) → IsOpen root s goal b → ends_climb b ≡ true → IsOpen root s goal Descendant
+climb-descendant root s goal Descendant o e = o
+climb-descendant root s goal Child o e = absurd (false≢true e)
+climb-descendant root s goal NextSibling o e = absurd (false≢true e)
+climb-descendant root s goal SubsequentSibling o e = absurd (false≢true e)
+
+-- a combinator that leads out of a row is none between siblings
+pub row-leaves : (b : Combinator) → ends_row b ≡ true → is_sibling b ≡ false
+row-leaves Descendant e = refl
+row-leaves Child e = refl
+row-leaves NextSibling e = absurd (false≢true e)
+row-leaves SubsequentSibling e = absurd (false≢true e)
+
+-- one that stays in the row and ends a chain is `~`
+pub row-stays : (root : Node) (s : Selector) (goal : Goal) (b : Combinator) → IsOpen root s goal b → ends_chain b ≡ true → ends_row b ≡ false → IsOpen root s goal SubsequentSibling
+row-stays root s goal SubsequentSibling o e f = o
+row-stays root s goal NextSibling o e f = absurd (false≢true e)
+row-stays root s goal Child o e f = absurd (false≢true (sym f))
+row-stays root s goal Descendant o e f = absurd (false≢true (sym f))

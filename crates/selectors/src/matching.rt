@@ -6,7 +6,7 @@
 ghost use Rattle.page_model.specs.Document.{name_at};
 ghost use Rattle.selectors.specs.ElementsIn.{IsElementIn, IsIn};
 ghost use Rattle.selectors.specs.Views.{compound_view, list_view, selector_view, simple_view};
-ghost use Rattle.selectors.specs.Walks.{Checks, Climbs, IsWithin, KeepsRow, WalksBefore, WalksChain, WalksRow, links_of, matches_one};
+ghost use Rattle.selectors.specs.Walks.{Checks, Climbs, IsWithin, KeepsRow, WalksBefore, WalksChain, WalksRow, ends_row, links_of, matches_one};
 ghost use Rattle.selectors_model.specs.Elements.{ancestors_of};
 ghost use Rattle.selectors_model.specs.Matching as model;
 ghost use Rattle.std.specs.Prelude.{IsSome, length, ◌-◌, ◌&&◌, ◌≡◌, ◌≤◌};
@@ -233,15 +233,28 @@ fn walk_before(doc: &Doc, root: NodeId, s: &Selector, right: Goal) -> Reached
     let mut after = right.at;
     while let Some(at) = nearest(doc, after, Side::Before, None) {
         match walk_chain(doc, root, s, Goal { links, at }) {
+            Reached::Matches => return Reached::Matches,
             Reached::Fails => after = at,
-            Reached::Open(right, Combinator::SubsequentSibling) => {
+            Reached::Open(right, combinator) => {
+                if leaves_row(combinator) {
+                    return Reached::Open(right, combinator);
+                }
                 links = right.links - 1;
                 after = right.at;
             }
-            reached => return reached,
         }
     }
     Reached::Fails
+}
+
+/// Whether a combinator leads out of the row of siblings.
+fn leaves_row(combinator: Combinator) -> bool
+    ensures { result ≡ ends_row combinator }
+{
+    match combinator {
+        Combinator::Descendant | Combinator::Child => true,
+        Combinator::NextSibling | Combinator::SubsequentSibling => false,
+    }
 }
 
 /// Walks from a goal to the left, as long as there is a next-sibling combinator on the left.

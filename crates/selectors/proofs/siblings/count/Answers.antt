@@ -1,8 +1,5 @@
-use Rattle.std.proofs.Common.{arith, ◌≡◌, ◌≤◌, ◌+◌, length, suc}
-use Rattle.page_model.specs.Document.{ids}
-use Rattle.page_model.specs.declared.limits.TheConstants.{MAX_NODES}
-use Rattle.selectors.specs.Siblings.{counted_beside}
-use Rattle.selectors.proofs.CountedBeside.{counted-none, counted-short, counted-some, from-first}
+use Rattle.std.proofs.Common.{arith}
+use Rattle.selectors.proofs.CountedBeside.{counted-short, counted-some, from-first}
 use Rattle.selectors.proofs.siblings.count.Goals as goal
 
 pub loop-at-init : goal.loop-at-init
