@@ -49,8 +49,12 @@ mutual
     | inl k ↦
         let child : IsAmong i (ids_of children) = is_among-true i (ids_of children) k.0 in
         let here : id ≡ id_of x = ap id_of (same_Some (element id name attributes children) x k.1) in
-        rw (among-is_among i (all_ids children) (among-children i children child), ancestors-child i children d.1 child, ← here,
-          not-among id (all_ids children) d.0) refl
+        rw (
+          among-is_among i (all_ids children) (among-children i children child),
+          ancestors-child i children d.1 child,
+          ← here,
+          not-among id (all_ids children) d.0,
+        ) refl
     | inr k ↦
         let both = all_parent-among i children x k.1 in
         rw (among-is_among i (all_ids children) both.0, among-is_among (id_of x) (all_ids children) both.1)
@@ -64,13 +68,17 @@ mutual
   ancestors_among-above i (node n ns) x d h = elim (or-found (parent_in i n) (parent_below i ns) x h) [
     | inl k ↦
         let both = parent-among i n x k in
-        rw (ancestors_among-absent i ns (λ m. distinct-apart i (ids n) (all_ids ns) d both.0 m),
+        rw (
+          ancestors_among-absent i ns (λ m. distinct-apart i (ids n) (all_ids ns) d both.0 m),
           ancestors_among-absent (id_of x) ns (λ m. distinct-apart (id_of x) (ids n) (all_ids ns) d both.1 m),
-          ancestors-above i n x (distinct-left (ids n) (all_ids ns) d) k) (join-last (ancestors_of (id_of x) n) (id_of x))
+          ancestors-above i n x (distinct-left (ids n) (all_ids ns) d) k,
+        ) (join-last (ancestors_of (id_of x) n) (id_of x))
     | inr k ↦
         let both = all_parent-among i ns x k.1 in
-        rw (ancestors-absent i n (λ m. distinct-apart i (ids n) (all_ids ns) d m both.0),
-          ancestors-absent (id_of x) n (λ m. distinct-apart (id_of x) (ids n) (all_ids ns) d m both.1))
+        rw (
+          ancestors-absent i n (λ m. distinct-apart i (ids n) (all_ids ns) d m both.0),
+          ancestors-absent (id_of x) n (λ m. distinct-apart (id_of x) (ids n) (all_ids ns) d m both.1),
+        )
         (ancestors_among-above i ns x (distinct-right (ids n) (all_ids ns) d) k.1)
   ]
 

@@ -126,8 +126,12 @@ pub above-sibling : (root : Node) (s : Selector) (b : Combinator) (c : Compound)
     → matches_above root (combined s b c) i ≡ true → matches_above root s i ≡ true
 above-sibling root s b c i d sibling h =
     any-more (matches_in_row root (combined s b c)) (matches_in_row root s) (ancestors_of i root) (ancestors_of i root)
-    (λ a m k. (a, m, true-or-right (matches root s a) (list_any (matches root s) (elements_before root a))
-    (row-sibling root s b c a d (ancestor-element root i a d m) sibling k))) h
+    (λ a m k. (
+      a,
+      m,
+      true-or-right (matches root s a) (list_any (matches root s) (elements_before root a))
+          (row-sibling root s b c a d (ancestor-element root i a d m) sibling k),
+    )) h
 
 -- ---- a combinator with what is above
 
@@ -168,9 +172,11 @@ above-child root s c i p d up h =
     any-more (matches_in_row root (combined s Child c)) (matches_in_row root s) (ancestors_of i root) (ancestors_of p root)
     (λ a m k.
     let found = any-found (matches root s) (left_of Child a root) (row-upward root s Child c a d (ancestor-element root i a d m) refl k) in
-    let over : parent_of a root ≡ Some found.0 = listed-some (parent_of a root) found.0 found.1 in
-    (found.0, parent-above i p a found.0 root d up m over,
-      true-or-left (matches root s found.0) (list_any (matches root s) (elements_before root found.0)) found.2)) h
+    let over : parent_of a root ≡ Some found.0 = listed-some (parent_of a root) found.0 found.1 in (
+      found.0,
+      parent-above i p a found.0 root d up m over,
+      true-or-left (matches root s found.0) (list_any (matches root s) (elements_before root found.0)) found.2,
+    )) h
 
 -- where a descendant matches above, its ancestor is an ancestor
 pub above-descendant : (root : Node) (s : Selector) (c : Compound) (i : ℕ) → AreDistinct (ids root)

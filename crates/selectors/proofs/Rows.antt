@@ -35,8 +35,11 @@ row-parent i x root d h = elim (none-or-some (parent_in i root)) [
     | inl e ↦ inl e
     | inr k ↦ absurd k
   ]
-  | inr some ↦ inr (some.0, some.1,
-      found-parent (id_of some.0) x root some.0 d (parent-found i root some.0 d some.1) (subst (λ o. IsAmong x (row_from o i)) some.1 h))
+  | inr some ↦ inr (
+    some.0,
+    some.1,
+    found-parent (id_of some.0) x root some.0 d (parent-found i root some.0 d some.1) (subst (λ o. IsAmong x (row_from o i)) some.1 h),
+  )
 ]
 
 pub row-row : (i x : ℕ) (root : Node) → AreDistinct (ids root) → IsAmong x (row_of i root) → row_of x root ≡ row_of i root

@@ -3,6 +3,7 @@
 
 mod matched;
 mod matching;
+mod matching_rules;
 mod names;
 mod positions;
 mod rules;
@@ -13,6 +14,7 @@ mod values;
 
 pub use matched::Matched;
 pub use matching::matches;
+pub use matching_rules::match_rules;
 pub use rules::{Rule, RuleList};
 pub use selector::{Compound, Link, Selector, SelectorList, Simple};
 pub use specificities::specificity;

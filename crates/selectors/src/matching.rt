@@ -142,7 +142,7 @@ fn list_matches(doc: &Doc, root: NodeId, id: NodeId, list: &SelectorList) -> boo
 
 /// Whether the selector matches the element `id`.
 #[cycle(matching)]
-fn selector_matches(doc: &Doc, root: NodeId, id: NodeId, s: &Selector) -> bool
+pub(crate) fn selector_matches(doc: &Doc, root: NodeId, id: NodeId, s: &Selector) -> bool
     requires { IsIn root id doc.now.document }
     ensures { result ≡ model.matches doc.now.document.root (selector_view s.now) id }
 {

@@ -31,7 +31,7 @@ fn sum_of(a: Spec, b: Spec) -> Spec
 }
 
 /// Returns the more specific of two specificities.
-fn greater_of(a: Spec, b: Spec) -> Spec
+pub(crate) fn greater_of(a: Spec, b: Spec) -> Spec
     ensures { result ≡ model.greater_spec a b }
 {
     if is_less(a, b) { b } else { a }

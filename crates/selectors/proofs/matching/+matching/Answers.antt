@@ -12,8 +12,7 @@ use Rattle.selectors.proofs.matching.+matching.Goals as goal
 pub matches_above-climb-requires : goal.matches_above-climb-requires
 matches_above-climb-requires t c =
     let shorter = c.loop-at.invariant.shorter in
-    let parent = sym c.parent.ensures ∙ c.in-Some.is in
-    (
+    let parent = sym c.parent.ensures ∙ c.in-Some.is in (
       search rules,
       (
         record {
@@ -70,8 +69,7 @@ climb-loop-right-preserved t c =
 pub walk_before-walk_chain-requires : goal.walk_before-walk_chain-requires
 walk_before-walk_chain-requires t c =
     let shorter = c.loop-at.invariant.shorter in
-    let near = nearest-before c.loop-at.after c.in-Some.at c.args.doc.now.document.root c.requires.element.here.document.ids.0 c.loop-at.invariant.element (sym c.nearest.ensures ∙ c.in-Some.is) in
-    (
+    let near = nearest-before c.loop-at.after c.in-Some.at c.args.doc.now.document.root c.requires.element.here.document.ids.0 c.loop-at.invariant.element (sym c.nearest.ensures ∙ c.in-Some.is) in (
       search rules,
       (
         record { root_is = c.requires.element.root_is; here = record { document = c.requires.element.here.document; element = near.element } },
