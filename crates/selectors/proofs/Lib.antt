@@ -5,3 +5,17 @@ pub mod Fronts
 pub mod Decimals
 pub mod LowNames
 pub mod ReadLists
+pub mod AreAscending
+pub mod Utf8
+pub mod Comparisons
+pub mod Words
+pub mod AncestorsOf
+pub mod AllBefore
+pub mod Rows
+pub mod CountedBeside
+pub mod PositionOf
+pub mod IsMultiple
+pub mod AnyOf
+pub mod Leftward
+pub mod WalkSteps
+pub mod PrefixOf

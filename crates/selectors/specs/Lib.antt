@@ -1,3 +1,8 @@
 pub mod Views
 pub mod Rules
+pub mod Rooms
+pub mod Siblings
+pub mod Names
+pub mod ElementsIn
+pub mod Walks
 pub mod inner
