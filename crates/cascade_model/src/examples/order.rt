@@ -50,10 +50,12 @@ pub fn specificity()
 /// What is not kept: unknown names, wrong values, rules whose selectors are invalid.
 #[tactic(auto, unfolding(css_model::specs::inner::Nesting::levels_of, css_model::specs::inner::Pieces::pieces_after, css_model::specs::inner::Fronts::parts_after))]
 pub fn dropped()
-    ensures width { of_root (page_with (codes "") (codes "div{width:1px;width:red;WIDTH:2px;wide:3px;height:1px 2px}div,:zz{width:9px}p{width:8px}") (leaf 0 (codes "div") [])) Width
+    ensures width { of_root (page_with (codes "") (codes "div{width:1px;width:red;WIDTH:2px;wide:3px;height:1px 2px}div,:zz{width:9px}p{width:8px}div{min-width:1px}") (leaf 0 (codes "div") [])) Width
         ≡ units 128 }
-    ensures height { of_root (page_with (codes "") (codes "div{width:1px;width:red;WIDTH:2px;wide:3px;height:1px 2px}div,:zz{width:9px}p{width:8px}") (leaf 0 (codes "div") [])) Height
+    ensures height { of_root (page_with (codes "") (codes "div{width:1px;width:red;WIDTH:2px;wide:3px;height:1px 2px}div,:zz{width:9px}p{width:8px}div{min-width:1px}") (leaf 0 (codes "div") [])) Height
         ≡ keyword Auto }
+    ensures after_an_invalid_rule { of_root (page_with (codes "") (codes "div{width:1px;width:red;WIDTH:2px;wide:3px;height:1px 2px}div,:zz{width:9px}p{width:8px}div{min-width:1px}") (leaf 0 (codes "div") [])) MinWidth
+        ≡ units 64 }
 {}
 
 /// A shorthand is its longhands, in its place.
