@@ -1,7 +1,7 @@
 pub mod AreAscending
 pub mod Utf8
 pub mod Comparisons
-pub mod Words
+pub mod BetweenWhitespace
 pub mod AncestorsOf
 pub mod AllBefore
 pub mod Rows
@@ -12,3 +12,11 @@ pub mod AnyOf
 pub mod Leftward
 pub mod WalkSteps
 pub mod PrefixOf
+pub mod Words
+pub mod CompoundDrafts
+pub mod SelectorDrafts
+pub mod ListDrafts
+pub mod Fronts
+pub mod Decimals
+pub mod LowNames
+pub mod ReadLists
