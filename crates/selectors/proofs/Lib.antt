@@ -1,3 +1,17 @@
+pub mod AreAscending
+pub mod Utf8
+pub mod Comparisons
+pub mod BetweenWhitespace
+pub mod AncestorsOf
+pub mod AllBefore
+pub mod Rows
+pub mod CountedBeside
+pub mod PositionOf
+pub mod IsMultiple
+pub mod AnyOf
+pub mod Leftward
+pub mod WalkSteps
+pub mod PrefixOf
 pub mod Words
 pub mod CompoundDrafts
 pub mod SelectorDrafts
