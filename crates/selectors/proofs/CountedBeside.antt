@@ -10,7 +10,7 @@ use Rattle.page_laws.proofs.Options.{none-or-some}
 use Rattle.page_model.specs.Document.{AreDistinct, IsAmong, Node, children_of, first, ids, ids_of, parent_in}
 use Rattle.selectors.proofs.AllBefore.{head-same, if-false, if-true, reverse-cons, tail, after-back, after-member, after-nearest, after-short, before-back-reverse, before-member, before-nearest, before-short}
 use Rattle.selectors.proofs.Rows.{row-distinct, row-row, row-short}
-use Rattle.selectors.specs.Siblings.{beside_of, counted_beside, counts, nodes_beside, row_of}
+use Rattle.selectors.specs.inner.Siblings.{beside_of, counted_beside, counts, nodes_beside, row_of}
 use Rattle.selectors.specs.declared.siblings.Side.{Side}
 use Rattle.selectors.specs.declared.siblings.Side.TheVariants.{Before, After}
 use Rattle.selectors_model.specs.Elements.{all_after, all_before}

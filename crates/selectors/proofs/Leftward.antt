@@ -13,8 +13,8 @@ use Rattle.selectors.proofs.AncestorsOf.{ancestor-element, ancestors-parent, anc
 use Rattle.selectors.proofs.AnyOf.{any-found, any-more, filter-among, filter-distinct, filter-member}
 use Rattle.selectors.proofs.PositionOf.{filter-turned}
 use Rattle.selectors.proofs.Rows.{row-ancestors, row-distinct, row-parent_of, row-self, row-siblings, siblings-row}
-use Rattle.selectors.specs.Siblings.{counted_beside, counts, row_of}
-use Rattle.selectors.specs.Walks.{elements_before, matches_above, matches_in_row}
+use Rattle.selectors.specs.inner.Siblings.{counted_beside, counts, row_of}
+use Rattle.selectors.specs.inner.Walks.{elements_before, matches_above, matches_in_row}
 use Rattle.selectors.specs.declared.siblings.Side.TheVariants.{Before}
 use Rattle.selectors_model.specs.Elements.{all_before, ancestors_of, left_of, siblings_of}
 use Rattle.selectors_model.specs.Matching.{compound_matches, matches}

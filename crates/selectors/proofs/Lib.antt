@@ -8,7 +8,7 @@ pub mod ReadLists
 pub mod AreAscending
 pub mod Utf8
 pub mod Comparisons
-pub mod Words
+pub mod BetweenWhitespace
 pub mod AncestorsOf
 pub mod AllBefore
 pub mod Rows

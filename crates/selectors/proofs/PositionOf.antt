@@ -8,7 +8,7 @@ use Rattle.page_model.specs.Document.{AreDistinct, Node, first, ids, name_at}
 use Rattle.page_model.specs.Trees.{Text}
 use Rattle.selectors.proofs.AllBefore.{after-filter, before-filter, if-false, if-true, reverse-cons}
 use Rattle.selectors.proofs.Rows.{siblings-row}
-use Rattle.selectors.specs.Siblings.{alike_of, side_of, counted_beside, counts, row_of}
+use Rattle.selectors.specs.inner.Siblings.{alike_of, side_of, counted_beside, counts, row_of}
 use Rattle.selectors.specs.declared.siblings.Side.{Side}
 use Rattle.selectors.specs.declared.siblings.Side.TheVariants.{Before, After}
 use Rattle.selectors_model.specs.Elements.{all_after, all_before, is_same_name, position_of, siblings_of, siblings_of_type}

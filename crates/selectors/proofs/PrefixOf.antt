@@ -5,7 +5,7 @@ use Rattle.std.proofs.lemmas.List.Sums.{fold_push}
 use Rattle.dom_arena.proofs.Lists.{take-next}
 use Rattle.page_model.specs.Document.{Node}
 use Rattle.selectors.specs.Views.{after_link, compound_view, link_view}
-use Rattle.selectors.specs.Walks.{IsOpen, goal_matches, links_of, matches_one, prefix_of}
+use Rattle.selectors.specs.inner.Walks.{IsOpen, goal_matches, links_of, matches_one, prefix_of}
 use Rattle.selectors.specs.declared.matching.Goal.{Goal}
 use Rattle.selectors.specs.declared.selector.Link.{Link}
 use Rattle.selectors.specs.declared.selector.Selector.{Selector, out-Selector}

@@ -8,7 +8,7 @@ use Rattle.page_laws.proofs.Options.{if-found, none-or-some, or-found}
 use Rattle.page_laws.proofs.ParentOf.{found-parent, parent-child, parent-found}
 use Rattle.page_laws.proofs.Siblings.{children-distinct}
 use Rattle.page_model.specs.Document.{AreDistinct, IsAmong, Node, Nodes, all_ids, children_of, element, id_of, ids, ids_of, is_among, name_at, name_of, no_nodes, node, parent_below, parent_in, parent_of, text}
-use Rattle.selectors.specs.Siblings.{counts, row_of}
+use Rattle.selectors.specs.inner.Siblings.{counts, row_of}
 use Rattle.selectors.proofs.AncestorsOf.{ancestors-orphan, ancestors-parent}
 use Rattle.selectors_model.specs.Elements.{ancestors_of, element_ids, siblings_of}
 

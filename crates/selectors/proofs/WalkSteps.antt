@@ -10,8 +10,8 @@ use Rattle.selectors.proofs.AnyOf.{any-last, any-one}
 use Rattle.selectors.proofs.Leftward.{above-child, above-descendant, above-sibling, any-above, is_sibling, left-next, nearest-before, none-before, row-sibling, row-upward}
 use Rattle.selectors.proofs.Rows.{row-ancestors}
 use Rattle.selectors.proofs.Utf8.{same-bool}
-use Rattle.selectors.specs.Siblings.{counted_beside}
-use Rattle.selectors.specs.Walks.{IsInRow, IsOpen, Leads, LeadsFrom, Reaches, WalksBefore, WalksRow, ends_chain, ends_climb, ends_row, elements_before, goal_matches, matches_above, matches_in_row, matches_one, prefix_of}
+use Rattle.selectors.specs.inner.Siblings.{counted_beside}
+use Rattle.selectors.specs.inner.Walks.{IsInRow, IsOpen, Leads, LeadsFrom, Reaches, WalksBefore, WalksRow, ends_chain, ends_climb, ends_row, elements_before, goal_matches, matches_above, matches_in_row, matches_one, prefix_of}
 use Rattle.selectors.specs.declared.matching.Goal.{Goal}
 use Rattle.selectors.specs.declared.matching.Reached.{Reached}
 use Rattle.selectors.specs.declared.matching.Reached.TheVariants as reached

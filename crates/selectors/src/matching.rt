@@ -4,9 +4,9 @@
 //! of a combinator, the nearest that matches is enough: whatever a farther one could still reach, it
 //! reaches too.
 ghost use Rattle.page_model.specs.Document.{name_at};
-ghost use Rattle.selectors.specs.ElementsIn.{IsElementIn, IsIn};
+ghost use Rattle.selectors.specs.inner.ElementsIn.{IsElementIn, IsIn};
 ghost use Rattle.selectors.specs.Views.{compound_view, list_view, selector_view, simple_view};
-ghost use Rattle.selectors.specs.Walks.{Checks, Climbs, IsWithin, KeepsRow, WalksBefore, WalksChain, WalksRow, ends_row, links_of, matches_one};
+ghost use Rattle.selectors.specs.inner.Walks.{Checks, Climbs, IsWithin, KeepsRow, WalksBefore, WalksChain, WalksRow, ends_row, links_of, matches_one};
 ghost use Rattle.selectors_model.specs.Elements.{ancestors_of};
 ghost use Rattle.selectors_model.specs.Matching as model;
 ghost use Rattle.std.specs.Prelude.{IsSome, length, ◌-◌, ◌&&◌, ◌≡◌, ◌≤◌};

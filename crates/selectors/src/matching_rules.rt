@@ -1,6 +1,6 @@
 //! The rules that match an element (Selectors 4, sections 3.1 and 17).
 ghost use Rattle.page_model.specs.Document.{name_at};
-ghost use Rattle.selectors.specs.ElementsIn.{IsIn};
+ghost use Rattle.selectors.specs.inner.ElementsIn.{IsIn};
 ghost use Rattle.selectors.specs.Rules.{matched_rules};
 ghost use Rattle.selectors.specs.Views.{list_view};
 ghost use Rattle.selectors_model.specs.Specificity as model;

@@ -4,7 +4,7 @@ ghost use Rattle.page_model.specs.Trees.{Text as text};
 ghost use Rattle.selectors_model.specs.Elements.{is_same_name};
 ghost use Rattle.selectors_model.specs.Matching as model;
 ghost use Rattle.selectors_model.specs.declared.attribute_matcher.AttributeMatcher.TheVariants.{Equals, Includes};
-ghost use Rattle.selectors.specs.Names.{IsSpelled};
+ghost use Rattle.selectors.specs.inner.Names.{IsSpelled};
 ghost use Rattle.std.specs.Prelude.{List, Some, codes, is_some, ℕ, ◌≡◌};
 ghost use Rattle.std.specs.Str.{chars};
 

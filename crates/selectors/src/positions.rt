@@ -1,6 +1,6 @@
 //! The position of an element among its siblings (Selectors 4, sections 14.3 and 14.4).
-ghost use Rattle.selectors.specs.ElementsIn.{IsElementIn};
-ghost use Rattle.selectors.specs.Siblings as siblings;
+ghost use Rattle.selectors.specs.inner.ElementsIn.{IsElementIn};
+ghost use Rattle.selectors.specs.inner.Siblings as siblings;
 ghost use Rattle.selectors_model.specs.AnPlusBs as an_plus_b;
 ghost use Rattle.selectors_model.specs.Elements.{position_of};
 ghost use Rattle.selectors_model.specs.Matching as model;

@@ -1,7 +1,7 @@
 //! The siblings of an element that selectors count: texts do not count (Selectors 4, section 14).
 ghost use Rattle.dom_arena.specs.Docs.{IsDocument};
 ghost use Rattle.page_model.specs.Document.{first, name_at};
-ghost use Rattle.selectors.specs.Siblings.{beside_of, counted_beside, counts};
+ghost use Rattle.selectors.specs.inner.Siblings.{beside_of, counted_beside, counts};
 ghost use Rattle.selectors_model.specs.Elements.{is_same_name};
 ghost use Rattle.std.specs.Prelude.{length, ◌≡◌, ◌≤◌};
 ghost use Rattle.page_model.specs.declared.limits.TheConstants.{MAX_NODES};

@@ -4,7 +4,7 @@ use Rattle.selectors.proofs.AncestorsOf.{parent-element}
 use Rattle.selectors.proofs.Leftward.{nearest-before}
 use Rattle.selectors.proofs.PrefixOf.{goal-fails, goal-open}
 use Rattle.selectors.specs.Views.{compound_view}
-use Rattle.selectors.specs.Walks.{IsOpen}
+use Rattle.selectors.specs.inner.Walks.{IsOpen}
 use Rattle.selectors_model.specs.Matching.{compound_matches}
 use Rattle.selectors.proofs.WalkSteps.{climb-descendant, row-leaves, row-stays, above-fails, above-less, above-matches, above-none, above-open, before-fails, before-less, before-matches, before-none, before-open, before-reached, child-leads, leads-on, next-leads, next-none, next-row, row-from-before, row-on}
 use Rattle.selectors.proofs.matching.+matching.Goals as goal

@@ -1,7 +1,7 @@
 -- What each loop keeps: what is left decides what it began with.
 use Rattle.std.proofs.Common.{◌≡◌, drop, length, map}
 use Rattle.selectors.specs.Views.{compound_view, list_of_selectors, list_view, selector_view}
-use Rattle.selectors.specs.Walks.{IsInRow, LeadsFrom, elements_before}
+use Rattle.selectors.specs.inner.Walks.{IsInRow, LeadsFrom, elements_before}
 use Rattle.selectors.proofs.WalkSteps.{AboveKept, BeforeKept}
 use Rattle.selectors_model.specs.Elements.{ancestors_of}
 use Rattle.selectors_model.specs.Matching as model

@@ -1,5 +1,5 @@
 use Rattle.std.proofs.Common.{◌≡◌, ◌+◌, length}
-use Rattle.selectors.specs.Siblings.{counted_beside}
+use Rattle.selectors.specs.inner.Siblings.{counted_beside}
 use Rattle.selectors.proofs.CountedBeside.{from_counted}
 use Rattle.selectors.proofs.siblings.count.Given as goal
 

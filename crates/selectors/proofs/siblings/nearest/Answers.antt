@@ -1,6 +1,6 @@
 use Rattle.std.proofs.Common.{◌∙◌, ap, filter, sym}
 use Rattle.page_model.specs.Document.{first}
-use Rattle.selectors.specs.Siblings.{counts}
+use Rattle.selectors.specs.inner.Siblings.{counts}
 use Rattle.selectors.proofs.CountedBeside.{from-beside, from-less, nearest-here, nearest-later}
 use Rattle.selectors.proofs.siblings.nearest.Goals as goal
 

@@ -1,6 +1,6 @@
 use Rattle.std.proofs.Common.{◌≡◌, filter, length}
 use Rattle.page_model.specs.Document.{first}
-use Rattle.selectors.specs.Siblings.{counted_beside, counts}
+use Rattle.selectors.specs.inner.Siblings.{counted_beside, counts}
 use Rattle.selectors.proofs.CountedBeside.{from_node}
 use Rattle.selectors.proofs.siblings.nearest.Given as goal
 

@@ -1,7 +1,7 @@
 use Rattle.std.proofs.Common.{◌∙◌, sym}
 use Rattle.std.specs.Str.{chars}
 use Rattle.std.specs.Str.Iter.{split_ascii_whitespace_text}
-use Rattle.selectors.proofs.Words.{word-found, word-later, word-none}
+use Rattle.selectors.proofs.BetweenWhitespace.{word-found, word-later, word-none}
 use Rattle.selectors.proofs.values.has_word.Goals as goal
 
 pub returns-then-is_same : goal.returns-then-is_same
