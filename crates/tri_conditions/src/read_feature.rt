@@ -14,7 +14,7 @@ pub trait ReadFeature<Q> {
     /// Which component value is which feature.
     ghost reads: { Self → Component → Option Q };
 
-    /// Returns the feature that `c` is, if it is one.
+    /// Returns the feature that `c` is, if it is one. Fails only if memory runs out.
     fn read(&self, alloc: Global, c: &Component) -> Result<Option<Q>, NoMemory>
         ensures { IfOk result (λ q. q ≡ reads self.now (component_view c.now)) };
 }

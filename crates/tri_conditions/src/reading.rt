@@ -17,7 +17,7 @@ use std::alloc::Global;
 /// Returns the condition that `c` is, if it is one, where `r` knows features.
 ///
 /// `r` is asked for functions, and for pairs of round brackets without a condition in them; where
-/// it knows no feature, the component value is `Enclosed`.
+/// it knows no feature, the component value is `Enclosed`. Fails only if memory runs out.
 /// Time grows with the number of component values, and with what `r` takes; the calls are as deep
 /// as brackets nest.
 pub fn read_condition<Q: Drop, R: ReadFeature<Q>>(
@@ -31,7 +31,7 @@ pub fn read_condition<Q: Drop, R: ReadFeature<Q>>(
     read_condition_slice(alloc, c.as_slice(), r)
 }
 
-/// Returns the condition that `c`, a part of a list, is, if it is one: as `read_condition`.
+/// Returns the condition that `c`, a part of a list, is, if it is one, as `read_condition` does.
 #[cycle(reading)]
 pub fn read_condition_slice<Q: Drop, R: ReadFeature<Q>>(
     alloc: Global,
