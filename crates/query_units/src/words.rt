@@ -6,7 +6,7 @@ ghost use Rattle.rules_model.specs.ComponentLists as lists;
 ghost use Rattle.std.specs.List.{list_all};
 ghost use Rattle.std.specs.Map.{lookup};
 ghost use Rattle.std.specs.Option.{option_copied};
-ghost use Rattle.std.specs.Prelude.{◌≡◌, IsTrue, map, option_map};
+ghost use Rattle.std.specs.Prelude.{◌≡◌, IfSome, IsTrue, map, option_map, false};
 ghost use Rattle.std.specs.Str.{str_eq_ignore_ascii_case};
 ghost use Rattle.value_model.specs.Words.{only_of, words_of};
 
@@ -38,7 +38,8 @@ pub struct FirstWord<'a> {
 
 /// Returns the first component value that is not white space.
 pub fn first_word(components: &[Component]) -> Option<FirstWord<'_>>
-    ensures { words_seen result ≡ words_of (components_view components.now) }
+    ensures words { words_seen result ≡ words_of (components_view components.now) }
+    ensures no_space { IfSome result (λ f. lists.is_whitespace (component_view f.word.now) ≡ false) }
 {
     for place in 0..components.len() {
         if !is_whitespace(&components[place]) {
