@@ -1,3 +1,4 @@
 -- What private functions cite.
 pub mod FormViews
 pub mod HexDigits
+pub mod WordSteps

@@ -2,6 +2,9 @@
 //! what declared values compute to.
 #![tactic(auto)]
 
+mod colors;
+mod container_names;
+mod containment;
 mod final_value;
 mod form;
 mod forms;
