@@ -12,11 +12,14 @@ mod hex_digits;
 mod keyword_texts;
 mod keywords;
 mod names;
+mod reading;
 mod tokens;
 mod value;
+mod value_of_word;
 
 pub use final_value::Final;
 pub use names::property_of_name;
 pub use query_units::{Bases, Computed, Length};
+pub use reading::read_value;
 pub use value::Value;
 pub use value_model::{Color, Containment, Keyword, Prop, Rgba, WideKeyword};
