@@ -1,1 +1,2 @@
 pub mod HexColors
+pub mod Tables

@@ -2,3 +2,4 @@
 pub mod FormViews
 pub mod HexDigits
 pub mod WordSteps
+pub mod ShorthandViews

@@ -13,6 +13,7 @@ mod keyword_texts;
 mod keywords;
 mod names;
 mod reading;
+mod shorthand;
 mod tokens;
 mod value;
 mod value_of_word;
