@@ -1,2 +1,3 @@
 pub mod HexColors
 pub mod Tables
+pub mod FinalValues

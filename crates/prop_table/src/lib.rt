@@ -11,7 +11,9 @@ mod forms;
 mod hex_digits;
 mod keyword_texts;
 mod keywords;
+mod name_lists;
 mod names;
+mod prop_order;
 mod reading;
 mod shorthand;
 mod tokens;
@@ -20,6 +22,7 @@ mod value_of_word;
 
 pub use final_value::Final;
 pub use names::property_of_name;
+pub use prop_order::{all_props, prop_place};
 pub use query_units::{Bases, Computed, Length};
 pub use reading::read_value;
 pub use value::Value;
