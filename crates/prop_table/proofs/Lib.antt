@@ -2,3 +2,5 @@ pub mod HexColors
 pub mod Tables
 pub mod FinalValues
 pub mod FourSides
+pub mod BorderSides
+pub mod Slashes

@@ -2,7 +2,10 @@
 //! what declared values compute to.
 #![tactic(auto)]
 
+mod background;
+mod borders;
 mod colors;
+mod container;
 mod container_names;
 mod containment;
 mod final_value;
@@ -18,6 +21,7 @@ mod prop_order;
 mod reading;
 mod shorthand;
 mod sides;
+mod slash;
 mod tokens;
 mod value;
 mod value_of_word;
