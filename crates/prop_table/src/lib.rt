@@ -5,6 +5,7 @@
 mod background;
 mod borders;
 mod colors;
+mod computing;
 mod container;
 mod container_names;
 mod containment;
@@ -28,6 +29,7 @@ mod tokens;
 mod value;
 mod value_of_word;
 
+pub use computing::compute;
 pub use expansion::expand_shorthand;
 pub use final_value::Final;
 pub use initial_values::{inherits, initial};
