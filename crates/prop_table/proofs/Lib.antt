@@ -1,5 +1,4 @@
 pub mod HexColors
-pub mod Tables
 pub mod FinalValues
 pub mod FourSides
 pub mod BorderSides
