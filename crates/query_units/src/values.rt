@@ -17,11 +17,9 @@ pub(crate) fn dimension_value(b: &Bases, number: Fixed6, unit: LengthUnit) -> Fi
         return Fixed6::new(0);
     }
     let base = base_length(b, unit.base);
-    mul_ratio(
-        number,
-        times(unit.numerator, base),
-        in_pixels(unit.denominator),
-    )
+    let dividend = times(unit.numerator, base);
+    let divisor = in_pixels(unit.denominator);
+    mul_ratio(number, dividend, divisor)
 }
 
 /// The millionths of a pixel that so many times a length are.
