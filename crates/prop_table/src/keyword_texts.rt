@@ -5,8 +5,8 @@ ghost use Rattle.value_model.specs.Keywords as keywords;
 
 use value_model::Keyword;
 
-/// How `keyword` is written.
-pub(crate) fn keyword_text(keyword: Keyword) -> &'static str
+/// Returns how `keyword` is written.
+pub fn keyword_text(keyword: Keyword) -> &'static str
     ensures text { result.now ≡ keywords.keyword_text keyword }
     ensures ascii { IsTrue (is_ascii_word result.now) }
 {

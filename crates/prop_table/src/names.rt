@@ -4,7 +4,7 @@ ghost use Rattle.std.specs.Map.{lookup};
 ghost use Rattle.std.specs.Prelude.{◌≡◌};
 ghost use Rattle.std.specs.Str.{str_eq_ignore_ascii_case};
 ghost use Rattle.value_model.specs.Grammar as grammar;
-ghost use Rattle.value_model.specs.Properties.{properties};
+ghost use Rattle.value_model.specs.Properties.{properties, property};
 
 use port_core::Text;
 use query_units::find_word;
@@ -30,6 +30,59 @@ fn logical_name(name: &Text) -> Option<Prop>
     ensures { result ≡ lookup (str_eq_ignore_ascii_case name.now) grammar.logical_names }
 {
     find_word(name, &LOGICAL_NAMES)
+}
+
+/// Returns the name of `prop`.
+pub fn prop_name(prop: Prop) -> &'static str
+    ensures { result.now ≡ (property prop).name }
+{
+    match prop {
+        Prop::Display => "display",
+        Prop::Width => "width",
+        Prop::Height => "height",
+        Prop::MinWidth => "min-width",
+        Prop::MinHeight => "min-height",
+        Prop::MaxWidth => "max-width",
+        Prop::MaxHeight => "max-height",
+        Prop::MarginTop => "margin-top",
+        Prop::MarginRight => "margin-right",
+        Prop::MarginBottom => "margin-bottom",
+        Prop::MarginLeft => "margin-left",
+        Prop::PaddingTop => "padding-top",
+        Prop::PaddingRight => "padding-right",
+        Prop::PaddingBottom => "padding-bottom",
+        Prop::PaddingLeft => "padding-left",
+        Prop::BorderTopWidth => "border-top-width",
+        Prop::BorderRightWidth => "border-right-width",
+        Prop::BorderBottomWidth => "border-bottom-width",
+        Prop::BorderLeftWidth => "border-left-width",
+        Prop::BorderTopStyle => "border-top-style",
+        Prop::BorderRightStyle => "border-right-style",
+        Prop::BorderBottomStyle => "border-bottom-style",
+        Prop::BorderLeftStyle => "border-left-style",
+        Prop::BorderTopColor => "border-top-color",
+        Prop::BorderRightColor => "border-right-color",
+        Prop::BorderBottomColor => "border-bottom-color",
+        Prop::BorderLeftColor => "border-left-color",
+        Prop::BoxSizing => "box-sizing",
+        Prop::FontSize => "font-size",
+        Prop::LineHeight => "line-height",
+        Prop::Color => "color",
+        Prop::BackgroundColor => "background-color",
+        Prop::TextAlign => "text-align",
+        Prop::WhiteSpace => "white-space",
+        Prop::Overflow => "overflow",
+        Prop::Contain => "contain",
+        Prop::ContainerType => "container-type",
+        Prop::ContainerName => "container-name",
+        Prop::Visibility => "visibility",
+        Prop::Opacity => "opacity",
+        Prop::FontStyle => "font-style",
+        Prop::FontWeight => "font-weight",
+        Prop::ZIndex => "z-index",
+        Prop::TextDecorationLine => "text-decoration-line",
+        Prop::PointerEvents => "pointer-events",
+    }
 }
 
 /// The names.
