@@ -21,8 +21,8 @@ use port_core::{NoMemory, Seq, Text};
 use std::alloc::Global;
 use value_model::{Prop, WideKeyword};
 
-/// Returns the values that the shorthand of this name, in any case, gives its longhands, where `c` is
-/// a value of it; `None` where it is not, and where no shorthand has this name.
+/// Returns the values that the shorthand of this name, in any case, gives its longhands, where `c`
+/// is a value of it; `None` where it is not, and where no shorthand has this name.
 pub fn expand_shorthand(
     alloc: Global,
     name: &str,

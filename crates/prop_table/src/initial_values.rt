@@ -1,4 +1,5 @@
-//! Initial values and inheritance (CSS Cascade 4, sections 7.1 and 7.2; the modules of each property).
+//! Initial values and inheritance (CSS Cascade 4, sections 7.1 and 7.2; the modules of each
+//! property).
 ghost use Rattle.prop_table.specs.Views.{final_view};
 ghost use Rattle.std.specs.Prelude.{◌≡◌};
 ghost use Rattle.value_model.specs.Properties as properties;

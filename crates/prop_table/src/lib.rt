@@ -1,5 +1,5 @@
-//! The table of properties: their names, the grammars of their values, shorthands, initial values, and
-//! what declared values compute to.
+//! The table of properties: their names, the grammars of their values, shorthands, initial values,
+//! and what declared values compute to.
 #![tactic(auto)]
 
 mod background;

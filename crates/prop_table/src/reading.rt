@@ -1,5 +1,5 @@
-//! Values of properties, read from component values (CSS Syntax 3, section 5.4.6; the modules of each
-//! property).
+//! Values of properties, read from component values (CSS Syntax 3, section 5.4.6; the modules of
+//! each property).
 ghost use Rattle.css_tokens.specs.Nested.{component_view, components_view};
 ghost use Rattle.prop_table.specs.Views.{value_view};
 ghost use Rattle.prop_table.specs.inner.FormViews.{form_view, forms_view};
@@ -59,7 +59,8 @@ fn value_of_forms(
     components: &[Component],
 ) -> Result<Option<Value>, NoMemory>
     ensures { IfOk result (λ v. option_map value_view v
-        ≡ grammar.value_of_forms (forms_view forms.now) (words_of (components_view components.now))) }
+        ≡ grammar.value_of_forms (forms_view forms.now)
+        (words_of (components_view components.now))) }
 {
     for form in forms {
         match value_of_form(alloc, *form, components)? {

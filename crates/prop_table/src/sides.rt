@@ -32,7 +32,8 @@ struct FourWords<'a> {
 
 /// One or two component values; the one of one is that of both ends.
 fn two_words(components: &[Component]) -> Option<TwoWords<'_>>
-    ensures words { option_map two_view result ≡ two_of (words_of (components_view components.now)) }
+    ensures words { option_map two_view result
+        ≡ two_of (words_of (components_view components.now)) }
     ensures no_space { IfSome result AreTwoWords }
 {
     let first = first_word(components)?;
@@ -51,10 +52,11 @@ fn two_words(components: &[Component]) -> Option<TwoWords<'_>>
     }
 }
 
-/// One to four component values. One that is missing is that of the other side of its axis, and right
-/// that of top.
+/// One to four component values. One that is missing is that of the other side of its axis, and
+/// right that of top.
 fn four_words(components: &[Component]) -> Option<FourWords<'_>>
-    ensures words { option_map four_view result ≡ four_of (words_of (components_view components.now)) }
+    ensures words { option_map four_view result
+        ≡ four_of (words_of (components_view components.now)) }
     ensures no_space { IfSome result AreFourWords }
 {
     let top = first_word(components)?;
@@ -118,7 +120,8 @@ fn two_values(
 ) -> Result<Option<Pairs>, NoMemory>
     requires { AreTwoWords words }
     ensures { IfOk result (λ ps. option_map pairs_view ps
-        ≡ shorthands.each_of_two_values start end (two_view words.entry).0 (two_view words.entry).1) }
+        ≡ shorthands.each_of_two_values start end
+        (two_view words.entry).0 (two_view words.entry).1) }
 {
     let none = Some(Seq::new(alloc));
     let one = with_longhand(none, read_longhand(alloc, start, words.start)?)?;

@@ -19,7 +19,8 @@ use value_model::Keyword;
 
 /// The value of `form` that `c` is, where the form is one component value.
 pub(crate) fn value_of_word(form: Form, c: &Component) -> Option<Value>
-    ensures { option_map value_view result ≡ model.value_of_one (form_view form) (component_view c.now) }
+    ensures { option_map value_view result
+        ≡ model.value_of_one (form_view form) (component_view c.now) }
 {
     match form {
         Form::OneOf(keywords) => keyword_value(keywords, c),
@@ -62,7 +63,8 @@ fn not_negative(length: Option<Length>) -> Option<Length>
 }
 
 fn number_value(c: &Component) -> Option<Value>
-    ensures { option_map value_view result ≡ model.value_of_one model.a_number (component_view c.now) }
+    ensures { option_map value_view result
+        ≡ model.value_of_one model.a_number (component_view c.now) }
 {
     let number = number_of(c)?;
     if number.millionths.get() < 0 {
@@ -73,7 +75,8 @@ fn number_value(c: &Component) -> Option<Value>
 }
 
 fn any_number_value(c: &Component) -> Option<Value>
-    ensures { option_map value_view result ≡ model.value_of_one model.any_number (component_view c.now) }
+    ensures { option_map value_view result
+        ≡ model.value_of_one model.any_number (component_view c.now) }
 {
     Some(Value::Number(number_of(c)?.millionths))
 }
@@ -91,7 +94,8 @@ fn integer_value(least: u16, greatest: u16, c: &Component) -> Option<Value>
 }
 
 fn any_integer_value(c: &Component) -> Option<Value>
-    ensures { option_map value_view result ≡ model.value_of_one model.any_integer (component_view c.now) }
+    ensures { option_map value_view result
+        ≡ model.value_of_one model.any_integer (component_view c.now) }
 {
     Some(Value::Integer(integer_of(c)?))
 }
@@ -116,7 +120,8 @@ fn whole(number: Fixed6) -> i32
 }
 
 fn color_value(c: &Component) -> Option<Value>
-    ensures { option_map value_view result ≡ model.value_of_one model.a_color (component_view c.now) }
+    ensures { option_map value_view result
+        ≡ model.value_of_one model.a_color (component_view c.now) }
 {
     Some(Value::Color(color_of(c)?))
 }

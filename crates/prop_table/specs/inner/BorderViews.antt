@@ -28,7 +28,8 @@ add_part (Color v) = shorthands.with_color (value_view v)
 -- with one more component value in front
 abbrev pub parts_with : Component → Option shorthands.BorderParts → Option shorthands.BorderParts
 parts_with c found =
-    if is_whitespace c then found else option_and_then (λ add. option_and_then add found) (shorthands.border_part c)
+    if is_whitespace c then found
+    else option_and_then (λ add. option_and_then add found) (shorthands.border_part c)
 
 -- the value of each part
 pub record AllValues : Type 0 where
@@ -37,7 +38,11 @@ pub record AllValues : Type 0 where
   pub color : Value
 
 abbrev pub values_view : BorderValues → AllValues
-values_view v = record { width = value_view v.width; style = value_view v.style; color = value_view v.color }
+values_view v = record {
+  width = value_view v.width;
+  style = value_view v.style;
+  color = value_view v.color;
+}
 
 -- a part that is missing is initial
 abbrev pub complete : shorthands.BorderParts → AllValues
@@ -50,4 +55,5 @@ complete parts = record {
 -- the same values for the border of each side
 abbrev pub side_values : List shorthands.Border → AllValues → List shorthands.Longhand
 side_values [] v = []
-side_values (b ∷ sides) v = (b.width, v.width) ∷ (b.style, v.style) ∷ (b.color, v.color) ∷ side_values sides v
+side_values (b ∷ sides) v =
+    (b.width, v.width) ∷ (b.style, v.style) ∷ (b.color, v.color) ∷ side_values sides v

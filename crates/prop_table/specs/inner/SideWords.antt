@@ -12,8 +12,8 @@ two_of (w ∷ []) = Some (w, w)
 two_of (w ∷ x ∷ []) = Some (w, x)
 two_of words = None
 
--- top, right, bottom and left; one that is missing is that of the other side of its axis, and right that
--- of top
+-- top, right, bottom and left; one that is missing is that of the other side of its axis, and right
+-- that of top
 abbrev pub four_of : List Component → Option (Component × Component × Component × Component)
 four_of (w ∷ []) = Some (w, w, w, w)
 four_of (w ∷ x ∷ []) = Some (w, x, w, x)
@@ -35,9 +35,12 @@ four_view w = (
 -- none of them is white space
 abbrev pub AreTwoWords : TwoWords → Type 0
 AreTwoWords w =
-    (is_whitespace (component_view w.start.now) ≡ false) × (is_whitespace (component_view w.end.now) ≡ false)
+    (is_whitespace (component_view w.start.now) ≡ false)
+    × (is_whitespace (component_view w.end.now) ≡ false)
 
 abbrev pub AreFourWords : FourWords → Type 0
 AreFourWords w =
-    (is_whitespace (component_view w.top.now) ≡ false) × (is_whitespace (component_view w.right.now) ≡ false)
-    × (is_whitespace (component_view w.bottom.now) ≡ false) × (is_whitespace (component_view w.left.now) ≡ false)
+    (is_whitespace (component_view w.top.now) ≡ false)
+    × (is_whitespace (component_view w.right.now) ≡ false)
+    × (is_whitespace (component_view w.bottom.now) ≡ false)
+    × (is_whitespace (component_view w.left.now) ≡ false)
