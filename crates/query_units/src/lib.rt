@@ -1,5 +1,5 @@
-//! Lengths and percentages: read from component values, and valued where the lengths that they refer
-//! to are known (CSS Values 4, sections 5 and 6; CSS Conditional 5, section 7).
+//! Lengths and percentages: read from component values, and valued where the lengths that they
+//! refer to are known (CSS Values 4, sections 5 and 6; CSS Conditional 5, section 7).
 #![tactic(auto)]
 
 mod bases;

@@ -39,7 +39,8 @@ pub struct FirstWord<'a> {
 /// Returns the first component value that is not white space.
 pub fn first_word(components: &[Component]) -> Option<FirstWord<'_>>
     ensures words { words_seen result ≡ words_of (components_view components.now) }
-    ensures no_space { IfSome result (λ f. lists.is_whitespace (component_view f.word.now) ≡ false) }
+    ensures no_space { IfSome result
+        (λ f. lists.is_whitespace (component_view f.word.now) ≡ false) }
 {
     for place in 0..components.len() {
         if !is_whitespace(&components[place]) {

@@ -8,7 +8,8 @@ use std::alloc::Global;
 use std::test::Fail;
 use units64::Units;
 
-/// Font sizes of 10 and 20 pixels, a viewport of 1,000 by 500 pixels, and a container of 300 by 400.
+/// Font sizes of 10 and 20 pixels, a viewport of 1,000 by 500 pixels, and a container of 300 by
+/// 400.
 fn bases() -> Bases {
     Bases {
         em: Units::new(640),
