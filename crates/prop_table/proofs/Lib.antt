@@ -1,0 +1,5 @@
+pub mod HexColors
+pub mod FinalValues
+pub mod FourSides
+pub mod BorderSides
+pub mod Slashes
