@@ -58,7 +58,9 @@ fn initial_values(rt: HostRuntime) -> Result<(), Fail> {
     let alloc = rt.alloc();
     let mut place = 0;
     for row in INITIAL.lines() {
-        let prop = *all_props().get(place).expect(&rt, "a row for each property");
+        let prop = *all_props()
+            .get(place)
+            .expect(&rt, "a row for each property");
         let value = initial(alloc, prop);
         let mut printed = String::from_str(alloc, prop_name(prop))?;
         printed.push_str(": ")?;
