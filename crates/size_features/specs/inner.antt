@@ -1,0 +1,2 @@
+-- What private functions cite: component values between signs.
+pub mod Signs

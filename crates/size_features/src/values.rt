@@ -1,0 +1,170 @@
+//! Values that features are compared with (Media Queries 4, sections 2.4 and 4.1 to 4.4).
+ghost use Rattle.conditions_model.specs.SizeFeatures as model;
+ghost use Rattle.css_tokens.specs.Nested.{component_view, components_view, listed};
+ghost use Rattle.rules_model.specs.ComponentLists as lists;
+ghost use Rattle.size_features.specs.Views.{value_view};
+ghost use Rattle.std.specs.Prelude.{◌≡◌, ◌≤ℤ◌, pos, ◌∷◌, IfSome, Some, option_and_then, option_map};
+ghost use Rattle.units64.specs.declared.constants.TheConstants.{MILLIONTHS_PER_PIXEL};
+ghost use Rattle.value_model.specs.Lengths as lengths;
+ghost use Rattle.value_model.specs.Words.{words_of};
+
+use crate::bound::FeatureValue;
+use crate::names::ident_of;
+use crate::ratio::Ratio;
+use crate::white_space::only_trimmed;
+use conditions_model::{FeatureName, Orientation};
+use css_tokens::{Component, TokenType, is_word};
+use port_core::Text;
+use query_units::{Length, first_word, length_of, only_word};
+use units64::{Fixed6, MILLIONTHS_PER_PIXEL};
+
+/// A value of this feature that can be compared; `orientation` has none.
+pub(crate) fn value_of(f: FeatureName, components: &[Component]) -> Option<FeatureValue>
+    ensures { option_map value_view result ≡ model.value_of f (components_view components.now) }
+{
+    match f {
+        FeatureName::Width | FeatureName::Height => length_value(components),
+        FeatureName::AspectRatio => ratio_value(components),
+        FeatureName::Orientation => None,
+    }
+}
+
+fn length_value(components: &[Component]) -> Option<FeatureValue>
+    ensures { option_map value_view result
+        ≡ option_map model.length_value (option_and_then lengths.length_of
+        (model.only_component (lists.trimmed (components_view components.now)))) }
+{
+    let only = only_trimmed(components)?;
+    length_of_word(only)
+}
+
+fn length_of_word(c: &Component) -> Option<FeatureValue>
+    ensures { option_map value_view result
+        ≡ option_map model.length_value (lengths.length_of (component_view c.now)) }
+{
+    match length_of(c)? {
+        Length::Dimension(number, unit) => Some(FeatureValue::Length(number, unit)),
+        Length::Percentage(_) => None,
+    }
+}
+
+/// `<ratio>`: a number, or two with `/`.
+fn ratio_value(components: &[Component]) -> Option<FeatureValue>
+    ensures { option_map value_view result
+        ≡ model.ratio_of (model.without_whitespace (components_view components.now)) }
+{
+    match first_word(components) {
+        Some(first) => ratio_of_words(first.word, first.rest),
+        None => None,
+    }
+}
+
+/// The ratio of a first component value and what is after it.
+fn ratio_of_words(a: &Component, rest: &[Component]) -> Option<FeatureValue>
+    ensures { option_map value_view result
+        ≡ model.ratio_of (listed (component_view a.now
+        ∷ words_of (components_view rest.now))) }
+{
+    match first_word(rest) {
+        Some(slash) => ratio_with_slash(a, slash.word, slash.rest),
+        None => number_alone(a),
+    }
+}
+
+fn ratio_with_slash(a: &Component, slash: &Component, rest: &[Component]) -> Option<FeatureValue>
+    ensures { option_map value_view result
+        ≡ model.ratio_of (listed (component_view a.now ∷ component_view slash.now
+        ∷ words_of (components_view rest.now))) }
+{
+    if !is_slash(slash) {
+        return None;
+    }
+    let b = only_word(rest)?;
+    two_numbers(a, b)
+}
+
+fn number_alone(c: &Component) -> Option<FeatureValue>
+    ensures { option_map value_view result
+        ≡ model.ratio_from (model.ratio_number (component_view c.now))
+        (Some MILLIONTHS_PER_PIXEL) }
+{
+    let across = ratio_number(c)?;
+    let down = Fixed6::new(MILLIONTHS_PER_PIXEL as i128);
+    Some(FeatureValue::Ratio(Ratio { across, down }))
+}
+
+fn two_numbers(a: &Component, b: &Component) -> Option<FeatureValue>
+    ensures { option_map value_view result
+        ≡ model.ratio_from (model.ratio_number (component_view a.now))
+        (model.ratio_number (component_view b.now)) }
+{
+    let across = ratio_number(a)?;
+    let down = ratio_number(b)?;
+    Some(FeatureValue::Ratio(Ratio { across, down }))
+}
+
+/// A number that is at least 0.
+fn ratio_number(c: &Component) -> Option<Fixed6>
+    ensures number { result ≡ model.ratio_number (component_view c.now) }
+    ensures not_negative { IfSome result (λ n. pos 0 ≤ℤ n) }
+{
+    match c {
+        Component::One(token) => number_of(&token.token_type),
+        _ => None,
+    }
+}
+
+fn number_of(token_type: &TokenType) -> Option<Fixed6>
+    ensures number { result ≡ model.number_of token_type.now }
+    ensures not_negative { IfSome result (λ n. pos 0 ≤ℤ n) }
+{
+    match token_type {
+        TokenType::Number(n) => {
+            if n.millionths.get() >= 0 {
+                Some(n.millionths)
+            } else {
+                None
+            }
+        }
+        _ => None,
+    }
+}
+
+fn is_slash(c: &Component) -> bool
+    ensures { result ≡ lists.is_token model.is_slash_type (component_view c.now) }
+{
+    match c {
+        Component::One(token) => is_slash_type(&token.token_type),
+        _ => false,
+    }
+}
+
+fn is_slash_type(token_type: &TokenType) -> bool
+    ensures { result ≡ model.is_slash_type token_type.now }
+{
+    match token_type {
+        TokenType::Delim(c) => *c == '/',
+        _ => false,
+    }
+}
+
+/// A value of `orientation`.
+pub(crate) fn orientation_of(components: &[Component]) -> Option<Orientation>
+    ensures { result ≡ model.orientation_of (components_view components.now) }
+{
+    let only = only_trimmed(components)?;
+    let name = ident_of(only)?;
+    orientation_of_name(name)
+}
+
+fn orientation_of_name(name: &Text) -> Option<Orientation>
+    ensures { result ≡ model.orientation_of_name name.now }
+{
+    if is_word(name, "portrait") {
+        Some(Orientation::Portrait)
+    } else if is_word(name, "landscape") {
+        Some(Orientation::Landscape)
+    } else {
+        None
+    }
+}
