@@ -74,6 +74,13 @@ pub fn inherited()
         ≡ number (pos 2000000) }
 {}
 
+/// `em` of `font-size` is the font size of the parent, and not that of the root.
+#[tactic(auto, unfolding(css_model::specs::inner::Nesting::levels_of, css_model::specs::inner::Pieces::pieces_after, css_model::specs::inner::Fronts::parts_after))]
+pub fn parent()
+    ensures font_size { of_grandchild (page_with (codes "") (codes "div{font-size:20px}p{font-size:10px}q{font-size:2em}") (parent 0 (codes "div") [] (parent 1 (codes "p") [] (leaf 2 (codes "q") [])))) FontSize
+        ≡ units 1280 }
+{}
+
 /// The order of declarations is no matter: the font size is first.
 #[tactic(auto, unfolding(css_model::specs::inner::Nesting::levels_of, css_model::specs::inner::Pieces::pieces_after, css_model::specs::inner::Fronts::parts_after))]
 pub fn first()
