@@ -4,6 +4,7 @@ ghost use Rattle.std.specs.Prelude.{◌≤◌};
 
 use css_tokens::{TokenFault, components, tokenize};
 use media_conditions::{Viewport, media_matches, read_media};
+use port_core::NoMemory;
 use std::alloc::Global;
 use std::process::Abort;
 use std::test::Fail;
@@ -209,5 +210,28 @@ fn nothing_is_zero(rt: HostRuntime) -> Result<(), Fail> {
     assert!(rt; matches(alloc, "(aspect-ratio)", 5, 0)?);
     assert!(rt; matches(alloc, "(orientation)", 0, 0)?);
     assert!(rt; matches(alloc, "(width: 0)", 0, 5)?);
+    Ok(())
+}
+
+/// A text so many times, and then another.
+fn repeated(alloc: Global, text: &str, count: usize, end: &str) -> Result<String, NoMemory> {
+    let mut all = String::new(alloc);
+    for _ in 0..count {
+        all.push_str(text)?;
+    }
+    all.push_str(end)?;
+    Ok(all)
+}
+
+#[test]
+fn lists_nest_and_are_long(rt: HostRuntime) -> Result<(), Fail> {
+    let alloc = rt.alloc();
+    let queries = repeated(alloc, "print,", 9_999, "screen")?;
+    assert!(rt; matches(alloc, queries.as_str(), 800, 600)?);
+    let parts = repeated(alloc, "(width: 800px) and ", 9_999, "(height: 600px)")?;
+    assert!(rt; matches(alloc, parts.as_str(), 800, 600)?);
+    assert!(rt; !matches(alloc, parts.as_str(), 800, 601)?);
+    let deep = repeated(alloc, "(", 64, "width")?;
+    assert!(rt; matches(alloc, deep.as_str(), 800, 600)?);
     Ok(())
 }
