@@ -1,0 +1,19 @@
+//! The table of properties: their names, the grammars of their values, shorthands, initial values, and
+//! what declared values compute to.
+#![tactic(auto)]
+
+mod final_value;
+mod form;
+mod forms;
+mod hex_digits;
+mod keyword_texts;
+mod keywords;
+mod names;
+mod tokens;
+mod value;
+
+pub use final_value::Final;
+pub use names::property_of_name;
+pub use query_units::{Bases, Computed, Length};
+pub use value::Value;
+pub use value_model::{Color, Containment, Keyword, Prop, Rgba, WideKeyword};

@@ -1,0 +1,67 @@
+//! What values ask of single component values (CSS Syntax 3, section 4).
+ghost use Rattle.css_tokens.specs.Nested.{component_view};
+ghost use Rattle.rules_model.specs.ComponentLists as lists;
+ghost use Rattle.std.specs.Option.{option_copied};
+ghost use Rattle.std.specs.Prelude.{◌≡◌, option_and_then};
+ghost use Rattle.value_model.specs.Forms as forms;
+ghost use Rattle.value_model.specs.Shorthands as shorthands;
+
+use css_tokens::{Component, Number, TokenType};
+use port_core::Text;
+
+/// The name of the identifier that `c` is, if it is one.
+pub(crate) fn ident_of(c: &Component) -> Option<&Text>
+    ensures { option_copied result ≡ lists.ident_of (component_view c.now) }
+{
+    match c {
+        Component::One(token) => ident_of_type(&token.token_type),
+        _ => None,
+    }
+}
+
+fn ident_of_type(token_type: &TokenType) -> Option<&Text>
+    ensures { option_copied result ≡ lists.ident_of_type token_type.now }
+{
+    match token_type {
+        TokenType::Ident(name) => Some(name),
+        _ => None,
+    }
+}
+
+/// The number that `c` is, if it is one.
+pub(crate) fn number_of(c: &Component) -> Option<Number>
+    ensures { result ≡ forms.number_of (component_view c.now) }
+{
+    match c {
+        Component::One(token) => number_of_type(&token.token_type),
+        _ => None,
+    }
+}
+
+fn number_of_type(token_type: &TokenType) -> Option<Number>
+    ensures { result ≡ forms.number_of_type token_type.now }
+{
+    match token_type {
+        TokenType::Number(n) => Some(*n),
+        _ => None,
+    }
+}
+
+/// Whether `c` is `/`.
+pub(crate) fn is_slash(c: &Component) -> bool
+    ensures { result ≡ shorthands.is_slash (component_view c.now) }
+{
+    match c {
+        Component::One(token) => is_slash_type(&token.token_type),
+        _ => false,
+    }
+}
+
+fn is_slash_type(token_type: &TokenType) -> bool
+    ensures { result ≡ shorthands.is_slash_type token_type.now }
+{
+    match token_type {
+        TokenType::Delim(c) => *c == '/',
+        _ => false,
+    }
+}
