@@ -1,2 +1,7 @@
 pub mod Views
 pub mod Rules
+pub mod Rooms
+pub mod Siblings
+pub mod Names
+pub mod ElementsIn
+pub mod Walks

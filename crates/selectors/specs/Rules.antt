@@ -1,6 +1,6 @@
 -- The rules that match an element, each with its specificity for it (Selectors 4, section 17).
 use Rattle.std.specs.Prelude.{ℕ, ◌<◌, List, [], ◌∷◌, Option, Some, None}
-use Rattle.std.specs.List.{All}
+use Rattle.std.specs.List.{All, AllPairs}
 use Rattle.page_model.specs.Document.{Node}
 use Rattle.selectors_model.specs.declared.spec.Spec.{Spec}
 use Rattle.selectors_model.specs.Specificity.{matching_specificity}
@@ -10,6 +10,10 @@ use Rattle.selectors.specs.Views.{list_view}
 -- the number is greater than that of each rule
 abbrev pub IsAfterAll : ℕ → List Rule → Type 0
 IsAfterAll number rules = All (λ r. r.number < number) rules
+
+-- each number is less than those of the rules after it
+abbrev pub AreAscending : List Rule → Type 0
+AreAscending rules = AllPairs (λ r later. r.number < later.number) rules
 
 -- a rule's number with the specificity of a match, if it matched, in front of those of the rules after it
 abbrev pub with_match : ℕ → Option Spec → List (ℕ × Spec) → List (ℕ × Spec)

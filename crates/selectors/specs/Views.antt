@@ -3,6 +3,7 @@ use Rattle.std.specs.Prelude.{List, [], ◌∷◌, map, fold}
 use Rattle.selectors_model.specs.declared.combinator.Combinator.{Combinator}
 use Rattle.selectors_model.specs.Selectors as model
 use Rattle.selectors.specs.declared.selector.Simple.{Simple, fold-Simple}
+use Rattle.selectors.specs.declared.selector.Link.{Link, fold-Link}
 use Rattle.selectors.specs.declared.selector.Selector.{Selector, fold-Selector}
 use Rattle.selectors.specs.declared.selector.SelectorList.{SelectorList, fold-SelectorList}
 use Rattle.selectors.specs.declared.selector.Simple.TheOpen.{Simple-F, Link-F, Selector-F, SelectorList-F}
@@ -61,3 +62,6 @@ list_view = fold-SelectorList model.Simple SeenLink model.Selector model.Selecto
 
 abbrev pub compound_view : List Simple → model.Compound
 compound_view simples = compound_of_simples (map simple_view simples)
+
+abbrev pub link_view : Link → SeenLink
+link_view = fold-Link model.Simple SeenLink model.Selector model.SelectorList simple_step link_step selector_step list_step

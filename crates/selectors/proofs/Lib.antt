@@ -1,0 +1,12 @@
+pub mod AreAscending
+pub mod Utf8
+pub mod Comparisons
+pub mod Words
+pub mod AncestorsOf
+pub mod AllBefore
+pub mod Rows
+pub mod CountedBeside
+pub mod PositionOf
+pub mod IsMultiple
+pub mod AnyOf
+pub mod Leftward
