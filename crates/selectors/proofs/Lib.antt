@@ -10,3 +10,11 @@ pub mod PositionOf
 pub mod IsMultiple
 pub mod AnyOf
 pub mod Leftward
+pub mod AsciiFronts
+pub mod CompoundDrafts
+pub mod SelectorDrafts
+pub mod ListDrafts
+pub mod Fronts
+pub mod Decimals
+pub mod LowNames
+pub mod ReadLists

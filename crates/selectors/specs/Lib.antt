@@ -4,4 +4,5 @@ pub mod Rooms
 pub mod Siblings
 pub mod Names
 pub mod ElementsIn
+pub mod inner
 pub mod Walks
