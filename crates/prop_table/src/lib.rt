@@ -9,11 +9,15 @@ mod hex_digits;
 mod keyword_texts;
 mod keywords;
 mod names;
+mod places;
+mod style;
 mod tokens;
 mod value;
 
 pub use final_value::Final;
 pub use names::property_of_name;
+pub use places::{place, prop_at};
 pub use query_units::{Bases, Computed, Length};
+pub use style::Style;
 pub use value::Value;
 pub use value_model::{Color, Containment, Keyword, Prop, Rgba, WideKeyword};
