@@ -1,1 +1,3 @@
 pub mod AreParts
+pub mod HexColors
+pub mod Tables

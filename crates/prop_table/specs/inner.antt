@@ -1,3 +1,5 @@
 -- What private functions cite.
 pub mod FormViews
 pub mod HexDigits
+pub mod WordSteps
+pub mod ShorthandViews

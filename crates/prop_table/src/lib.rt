@@ -2,6 +2,9 @@
 //! what declared values compute to.
 #![tactic(auto)]
 
+mod colors;
+mod container_names;
+mod containment;
 mod final_value;
 mod form;
 mod forms;
@@ -10,14 +13,18 @@ mod keyword_texts;
 mod keywords;
 mod names;
 mod places;
+mod reading;
+mod shorthand;
 mod style;
 mod tokens;
 mod value;
+mod value_of_word;
 
 pub use final_value::Final;
 pub use names::property_of_name;
 pub use places::{place, prop_at};
 pub use query_units::{Bases, Computed, Length};
+pub use reading::read_value;
 pub use style::Style;
 pub use value::Value;
 pub use value_model::{Color, Containment, Keyword, Prop, Rgba, WideKeyword};

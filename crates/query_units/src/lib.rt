@@ -15,4 +15,4 @@ pub use length::Length;
 pub use page_model::Viewport;
 pub use reading::{length_of, length_or_percentage_of, read_length};
 pub use value_model::{Bases, LengthBase, LengthUnit, UnitSet};
-pub use words::{FirstWord, find_word, first_word, only_word};
+pub use words::{FirstWord, find_word, first_word, is_whitespace, only_word};

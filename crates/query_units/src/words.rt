@@ -52,7 +52,8 @@ pub fn first_word(components: &[Component]) -> Option<FirstWord<'_>>
     None
 }
 
-fn is_whitespace(c: &Component) -> bool
+/// Returns whether `c` is white space.
+pub fn is_whitespace(c: &Component) -> bool
     ensures { result ≡ lists.is_whitespace (component_view c.now) }
 {
     match c {
