@@ -1,3 +1,6 @@
 pub mod AreParts
 pub mod HexColors
 pub mod Tables
+pub mod FinalValues
+pub mod FourSides
+pub mod StyleView

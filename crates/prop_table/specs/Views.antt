@@ -1,6 +1,9 @@
 -- Which values of the definitions these are.
+use Rattle.std.specs.Prelude.{List, map}
+use Rattle.value_model.specs.Shorthands as shorthands
 use Rattle.value_model.specs.Values as values
 use Rattle.query_units.specs.Views.{length_view, computed_view}
+use Rattle.prop_table.specs.declared.longhand.Longhand.{Longhand}
 use Rattle.prop_table.specs.declared.value.Value.{Value}
 use Rattle.prop_table.specs.declared.value.Value.TheVariants as declared
 use Rattle.prop_table.specs.declared.final_value.Final.{Final}
@@ -25,3 +28,9 @@ final_view (final.Integer n) = values.integer n
 final_view (final.Color c) = values.color c
 final_view (final.Containment c) = values.containment c
 final_view (final.Names names) = values.names names
+
+abbrev pub longhand_view : Longhand → shorthands.Longhand
+longhand_view l = (l.prop, value_view l.value)
+
+abbrev pub pairs_view : List Longhand → List shorthands.Longhand
+pairs_view ls = map longhand_view ls

@@ -3,3 +3,4 @@ pub mod FormViews
 pub mod HexDigits
 pub mod WordSteps
 pub mod ShorthandViews
+pub mod SideWords

@@ -1,6 +1,11 @@
 //! Values, as they are computed (CSS Cascade 4, section 4.4).
-use port_core::{Seq, Text};
+ghost use Rattle.prop_table.specs.Views.{final_view};
+ghost use Rattle.std.specs.Prelude.{◌≡◌, ◌↔◌, IfOk, IsTrue};
+
+use crate::name_lists::{copy_names, same_names};
+use port_core::{NoMemory, Seq, Text};
 use query_units::Computed;
+use std::alloc::Global;
 use units64::Fixed6;
 use value_model::{Color, Containment, Keyword};
 
@@ -23,4 +28,39 @@ pub enum Final {
     Containment(Containment),
     /// Names of containers; `none` is no name.
     Names(Seq<Text>),
+}
+
+impl Final {
+    /// Returns a copy. One without names takes no memory.
+    pub fn copy(&self, alloc: Global) -> Result<Final, NoMemory>
+        ensures { IfOk result (λ f. final_view f ≡ final_view self.now) }
+    {
+        match self {
+            Final::Keyword(keyword) => Ok(Final::Keyword(*keyword)),
+            Final::Length(length) => Ok(Final::Length(*length)),
+            Final::Number(number) => Ok(Final::Number(*number)),
+            Final::Alpha(number) => Ok(Final::Alpha(*number)),
+            Final::Integer(integer) => Ok(Final::Integer(*integer)),
+            Final::Color(color) => Ok(Final::Color(*color)),
+            Final::Containment(containment) => Ok(Final::Containment(*containment)),
+            Final::Names(names) => Ok(Final::Names(copy_names(alloc, names)?)),
+        }
+    }
+
+    /// Returns whether both are the same value.
+    pub fn same(&self, other: &Final) -> bool
+        ensures { IsTrue result ↔ (final_view self.now ≡ final_view other.now) }
+    {
+        match (self, other) {
+            (Final::Keyword(a), Final::Keyword(b)) => a == b,
+            (Final::Length(a), Final::Length(b)) => a == b,
+            (Final::Number(a), Final::Number(b)) => a == b,
+            (Final::Alpha(a), Final::Alpha(b)) => a == b,
+            (Final::Integer(a), Final::Integer(b)) => a == b,
+            (Final::Color(a), Final::Color(b)) => a == b,
+            (Final::Containment(a), Final::Containment(b)) => a == b,
+            (Final::Names(a), Final::Names(b)) => same_names(a, b),
+            _ => false,
+        }
+    }
 }

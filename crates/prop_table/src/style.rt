@@ -1,10 +1,10 @@
 //! The computed values of an element (CSS Cascade 4, section 4.4).
-ghost use Rattle.prop_table.specs.Styles.{AreParts, borders_of, boxes_of, rest_of};
-ghost use Rattle.std.specs.Prelude.{◌≡◌, ◌++◌, ◌<◌, IfOk, Some, length, slice_get};
-ghost use Rattle.value_model.specs.Properties.{prop_place};
+ghost use Rattle.prop_table.specs.Styles.{AreParts, borders_of, boxes_of, rest_of, style_view};
+ghost use Rattle.std.specs.Prelude.{◌≡◌, ◌↔◌, ◌++◌, IsTrue, ◌<◌, IfOk, Some, length, slice_get};
+ghost use Rattle.value_model.specs.Properties as properties;
 
 use crate::final_value::Final;
-use crate::places::place;
+use crate::prop_order::prop_place;
 use port_core::{NoMemory, Seq};
 use std::marker::Model;
 use std::rc::Rc;
@@ -48,9 +48,9 @@ impl Style {
 
     /// Returns the value of `prop`.
     pub fn get(&self, prop: Prop) -> &Final
-        ensures { slice_get self.now (prop_place prop) ≡ Some result.now }
+        ensures { slice_get self.now (properties.prop_place prop) ≡ Some result.now }
     {
-        let place = place(prop);
+        let place = prop_place(prop);
         if place < BORDERS {
             value_at(&self.boxes, place)
         } else if place < REST {
@@ -81,6 +81,20 @@ impl Style {
         &self.rest
     }
 
+    /// Returns whether both have the same values.
+    #[tactic(auto, using(crate::proofs::StyleView::same_boxes, crate::proofs::StyleView::same_borders, crate::proofs::StyleView::same_rest, crate::proofs::StyleView::same_parts))]
+    pub fn same(&self, other: &Style) -> bool
+        ensures { IsTrue result ↔ (style_view self.now ≡ style_view other.now) }
+    {
+        if !are_same(self.boxes(), other.boxes()) {
+            return false;
+        }
+        if !are_same(self.borders(), other.borders()) {
+            return false;
+        }
+        are_same(self.rest(), other.rest())
+    }
+
     /// Returns a style that shares the parts of this one. It allocates nothing.
     ///
     /// # Errors
@@ -108,4 +122,19 @@ fn value_at(part: &Seq<Final>, index: usize) -> &Final
     ensures { slice_get part.now index ≡ Some result.now }
 {
     &part.as_slice()[index]
+}
+
+/// Whether two lists have the same values.
+fn are_same(these: &Seq<Final>, those: &Seq<Final>) -> bool
+    ensures { IsTrue result ↔ (style_view these.now ≡ style_view those.now) }
+{
+    if these.len() != those.len() {
+        return false;
+    }
+    for i in 0..these.len() {
+        if !these.as_slice()[i].same(&those.as_slice()[i]) {
+            return false;
+        }
+    }
+    true
 }

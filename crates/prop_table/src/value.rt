@@ -2,6 +2,7 @@
 ghost use Rattle.prop_table.specs.Views.{value_view};
 ghost use Rattle.std.specs.Prelude.{◌≡◌, IfOk};
 
+use crate::name_lists::copy_names;
 use port_core::{NoMemory, Seq, Text};
 use query_units::Length;
 use std::alloc::Global;
@@ -27,4 +28,22 @@ pub enum Value {
     Containment(Containment),
     /// Names of containers; `none` is no name.
     Names(Seq<Text>),
+}
+
+impl Value {
+    /// Returns a copy. One without names takes no memory.
+    pub fn copy(&self, alloc: Global) -> Result<Value, NoMemory>
+        ensures { IfOk result (λ v. value_view v ≡ value_view self.now) }
+    {
+        match self {
+            Value::Wide(wide) => Ok(Value::Wide(*wide)),
+            Value::Keyword(keyword) => Ok(Value::Keyword(*keyword)),
+            Value::Length(length) => Ok(Value::Length(*length)),
+            Value::Number(number) => Ok(Value::Number(*number)),
+            Value::Integer(integer) => Ok(Value::Integer(*integer)),
+            Value::Color(color) => Ok(Value::Color(*color)),
+            Value::Containment(containment) => Ok(Value::Containment(*containment)),
+            Value::Names(names) => Ok(Value::Names(copy_names(alloc, names)?)),
+        }
+    }
 }

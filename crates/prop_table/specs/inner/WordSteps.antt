@@ -1,5 +1,5 @@
 -- Lists of words, read one after another.
-use Rattle.std.specs.Prelude.{if◌then◌else◌, List, ◌++◌, Option, option_map, option_and_then}
+use Rattle.std.specs.Prelude.{if◌then◌else◌, List, [], ◌∷◌, ◌++◌, Option, Some, None, option_map, option_and_then}
 use Rattle.css_model.specs.Components.{Component}
 use Rattle.rules_model.specs.ComponentLists.{ident_of, is_whitespace}
 use Rattle.value_model.specs.declared.containment.Containment.{Containment}
@@ -19,3 +19,8 @@ after front more = option_map (λ xs. front ++ xs) more
 -- what the one of a list of one is
 abbrev pub alone : {X Y : Type 0} → (X → Option Y) → List X → Option Y
 alone f words = option_and_then f (only_of words)
+
+-- one more after others, if all are there
+abbrev pub behind : {X : Type 0} → Option (List X) → Option X → Option (List X)
+behind (Some xs) (Some x) = Some (xs ++ x ∷ [])
+behind xs x = None

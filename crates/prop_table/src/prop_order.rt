@@ -1,27 +1,11 @@
-//! The order of the properties.
-ghost use Rattle.std.specs.Prelude.{◌≡◌, ◌<◌, Some, slice_get};
+//! The properties in their order.
+ghost use Rattle.std.specs.Prelude.{◌≡◌, ◌<◌};
 ghost use Rattle.value_model.specs.Properties as properties;
 
 use value_model::Prop;
 
-/// Returns the place of `prop` in the order in which properties are printed, from 0.
-pub fn place(prop: Prop) -> usize
-    ensures place { result ≡ properties.prop_place prop }
-    ensures within { result < 45 }
-{
-    prop as usize
-}
-
-/// Returns the property at `place`.
-pub fn prop_at(place: usize) -> Prop
-    requires { place < 45 }
-    ensures { slice_get properties.properties place ≡ Some result }
-{
-    PROPS[place]
-}
-
-/// All properties, in their order.
-const PROPS: [Prop; 45] = [
+/// The properties, in the order in which they are printed.
+const ALL: [Prop; 45] = [
     Prop::Display,
     Prop::Width,
     Prop::Height,
@@ -68,3 +52,18 @@ const PROPS: [Prop; 45] = [
     Prop::TextDecorationLine,
     Prop::PointerEvents,
 ];
+
+/// Returns the properties, in the order in which they are printed.
+pub fn all_props() -> &'static [Prop]
+    ensures { result.now ≡ properties.properties }
+{
+    &ALL
+}
+
+/// Returns the place of `prop` in this order, from 0.
+pub fn prop_place(prop: Prop) -> usize
+    ensures place { result ≡ properties.prop_place prop }
+    ensures within { result < 45 }
+{
+    prop as usize
+}
