@@ -4,3 +4,5 @@ pub mod Tables
 pub mod FinalValues
 pub mod FourSides
 pub mod StyleView
+pub mod BorderSides
+pub mod Slashes

@@ -4,3 +4,5 @@ pub mod HexDigits
 pub mod WordSteps
 pub mod ShorthandViews
 pub mod SideWords
+pub mod BorderViews
+pub mod Slashes

@@ -2,13 +2,19 @@
 //! what declared values compute to.
 #![tactic(auto)]
 
+mod background;
+mod borders;
 mod colors;
+mod computing;
+mod container;
 mod container_names;
 mod containment;
+mod expansion;
 mod final_value;
 mod form;
 mod forms;
 mod hex_digits;
+mod initial_values;
 mod keyword_texts;
 mod keywords;
 mod longhand;
@@ -18,12 +24,16 @@ mod prop_order;
 mod reading;
 mod shorthand;
 mod sides;
+mod slash;
 mod style;
 mod tokens;
 mod value;
 mod value_of_word;
 
+pub use computing::compute;
+pub use expansion::expand_shorthand;
 pub use final_value::Final;
+pub use initial_values::{inherits, initial};
 pub use longhand::{Longhand, Pairs};
 pub use names::property_of_name;
 pub use prop_order::{all_props, prop_place};

@@ -1,6 +1,9 @@
 -- Which shorthands of the definitions these are.
 use Rattle.std.specs.Prelude.{List, map}
+use Rattle.value_model.specs.declared.prop.Prop.{Prop}
+use Rattle.value_model.specs.declared.wide_keyword.WideKeyword.{WideKeyword}
 use Rattle.value_model.specs.Shorthands as shorthands
+use Rattle.value_model.specs.Values.{wide_keyword}
 use Rattle.prop_table.specs.declared.shorthand.Border.{Border}
 use Rattle.prop_table.specs.declared.shorthand.Shorthand.{Shorthand}
 use Rattle.prop_table.specs.declared.shorthand.Shorthand.TheVariants as shorthand
@@ -18,3 +21,7 @@ shorthand_view (shorthand.Borders sides) = shorthands.borders (borders_view side
 shorthand_view shorthand.Background = shorthands.background
 shorthand_view shorthand.Container = shorthands.container
 shorthand_view shorthand.All = shorthands.all
+
+-- a CSS-wide keyword for each property
+abbrev pub wide_longhands : WideKeyword → List Prop → List shorthands.Longhand
+wide_longhands wide props = map (λ p. (p, wide_keyword wide)) props
