@@ -1,0 +1,9 @@
+pub mod Views
+pub mod Numbers
+pub mod AppliedViews
+pub mod Tables
+pub mod Defaults
+pub mod Books
+pub mod Answers
+pub mod WinnersView
+pub mod inner
