@@ -10,3 +10,6 @@ pub mod AreDefaults
 pub mod Matches
 pub mod WinnersView
 pub mod AllYes
+pub mod ValueIn
+pub mod StyleParts
+pub mod BasesOf

@@ -6,4 +6,7 @@ pub mod Defaults
 pub mod Books
 pub mod Answers
 pub mod WinnersView
+pub mod Choices
+pub mod Givens
+pub mod StyledView
 pub mod inner
