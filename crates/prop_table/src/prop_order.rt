@@ -1,5 +1,5 @@
 //! The properties in their order.
-ghost use Rattle.std.specs.Prelude.{◌≡◌};
+ghost use Rattle.std.specs.Prelude.{◌≡◌, ◌<◌};
 ghost use Rattle.value_model.specs.Properties as properties;
 
 use value_model::Prop;
@@ -62,7 +62,8 @@ pub fn all_props() -> &'static [Prop]
 
 /// Returns the place of `prop` in this order, from 0.
 pub fn prop_place(prop: Prop) -> usize
-    ensures { result ≡ properties.prop_place prop }
+    ensures place { result ≡ properties.prop_place prop }
+    ensures within { result < 45 }
 {
     prop as usize
 }

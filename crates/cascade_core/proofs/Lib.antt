@@ -1,0 +1,15 @@
+pub mod UserAgentSheet
+pub mod Numbers
+pub mod RulesView
+pub mod IsDraft
+pub mod KeptDeclarations
+pub mod IsTable
+pub mod AreWinners
+pub mod BookOf
+pub mod AreDefaults
+pub mod Matches
+pub mod WinnersView
+pub mod AllYes
+pub mod ValueIn
+pub mod StyleParts
+pub mod BasesOf

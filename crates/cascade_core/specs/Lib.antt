@@ -1,0 +1,12 @@
+pub mod Views
+pub mod Numbers
+pub mod AppliedViews
+pub mod Tables
+pub mod Defaults
+pub mod Books
+pub mod Answers
+pub mod WinnersView
+pub mod Choices
+pub mod Givens
+pub mod StyledView
+pub mod inner

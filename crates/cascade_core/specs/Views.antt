@@ -1,0 +1,27 @@
+-- Which rules and declarations of the definitions these are.
+use Rattle.std.specs.Prelude.{List, [], ◌∷◌, map}
+use Rattle.cascade_model.specs.Books.{BookRule}
+use Rattle.cascade_model.specs.Kept as model
+use Rattle.cascade_core.specs.declared.kept.Kept.{Kept}
+use Rattle.cascade_core.specs.declared.rule_body.RuleBody.{RuleBody}
+use Rattle.prop_table.specs.Views.{value_view}
+use Rattle.selectors.specs.Views.{list_view}
+use Rattle.selectors.specs.declared.rules.Rule.{Rule}
+
+abbrev pub kept_view : Kept → model.Kept
+kept_view k = record { prop = k.prop; value = value_view k.value.value; important = k.important }
+
+abbrev pub all_kept_view : List Kept → List model.Kept
+all_kept_view ks = map kept_view ks
+
+-- a rule: its selectors stand in one place, and the rest in another
+abbrev pub rule_view : Rule → RuleBody → BookRule
+rule_view r body = record {
+  origin = body.origin;
+  selectors = list_view r.list;
+  declarations = all_kept_view body.declarations;
+}
+
+abbrev pub rules_view : List Rule → List RuleBody → List BookRule
+rules_view (r ∷ rules) (body ∷ bodies) = rule_view r body ∷ rules_view rules bodies
+rules_view rules bodies = []

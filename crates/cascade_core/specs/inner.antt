@@ -1,0 +1,4 @@
+-- What private functions cite.
+pub mod Drafts
+pub mod BothTables
+pub mod Matches

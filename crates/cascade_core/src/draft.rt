@@ -1,0 +1,93 @@
+//! The rules of a book, while it is read (CSS Cascade 4, section 6.2).
+ghost use Rattle.cascade_core.specs.Views.{all_kept_view};
+ghost use Rattle.cascade_core.specs.inner.Drafts.{Adds, IsDraft, book_rule_of, book_rules_of, draft_view};
+ghost use Rattle.cascade_model.specs.Books.{in_front_if};
+ghost use Rattle.selectors.specs.Views.{list_view};
+ghost use Rattle.std.specs.Prelude.{◌≡◌, ◌∷◌, [], ◌<◌, ◌≤◌, ◌+◌, OnOk, length};
+
+use crate::kept::{Kept, kept_declarations};
+use crate::rule_body::RuleBody;
+use cascade_model::Origin;
+use css_rules::StyleRule;
+use port_core::{NoMemory, Seq};
+use selectors::{RuleList, SelectorList, read_list};
+use std::alloc::Global;
+
+/// Rules, each with its number and its selectors in one list, and the rest in another.
+#[derive(Debug, Drop)]
+pub(crate) struct Draft {
+    pub(crate) rules: RuleList,
+    pub(crate) bodies: Seq<RuleBody>,
+}
+
+/// No rule.
+pub(crate) fn empty_draft(alloc: Global) -> Draft
+    ensures sound { IsDraft result }
+    ensures empty { draft_view result ≡ [] }
+    ensures none { length result.rules ≡ 0 }
+{
+    Draft {
+        rules: RuleList::new(alloc),
+        bodies: Seq::new(alloc),
+    }
+}
+
+/// Adds the rules of a sheet, in the order of its text.
+pub(crate) fn add_rules(
+    alloc: Global,
+    draft: &mut Draft,
+    origin: Origin,
+    rules: &[StyleRule],
+) -> Result<(), NoMemory>
+    requires sound { IsDraft draft.old }
+    requires few { length draft.old.rules + length rules.now < 100000 }
+    ensures { OnOk result (Adds draft.old draft.new (book_rules_of origin rules.now) (length rules.now)) }
+{
+    for rule in rules {
+        add_rule(alloc, draft, origin, rule)?;
+    }
+    Ok(())
+}
+
+/// Adds a rule, if its prelude is a selector list (Selectors 4, section 3.9).
+fn add_rule(
+    alloc: Global,
+    draft: &mut Draft,
+    origin: Origin,
+    rule: &StyleRule,
+) -> Result<(), NoMemory>
+    requires sound { IsDraft draft.old }
+    requires few { length draft.old.rules < 100000 }
+    ensures { OnOk result (Adds draft.old draft.new (in_front_if (book_rule_of origin rule.now) []) 1) }
+{
+    match read_list(alloc, &rule.prelude)? {
+        None => Ok(()),
+        Some(list) => {
+            let declarations = kept_declarations(alloc, &rule.declarations)?;
+            push_rule(draft, origin, list, declarations)
+        }
+    }
+}
+
+/// Adds the rule of these selectors and declarations.
+fn push_rule(
+    draft: &mut Draft,
+    origin: Origin,
+    list: SelectorList,
+    declarations: Seq<Kept>,
+) -> Result<(), NoMemory>
+    requires sound { IsDraft draft.old }
+    requires few { length draft.old.rules < 100000 }
+    ensures { OnOk result (Adds draft.old draft.new (record {
+      origin = origin;
+      selectors = list_view list;
+      declarations = all_kept_view declarations;
+    } ∷ []) 1) }
+{
+    let number = draft.rules.as_slice().len() as u32;
+    draft.rules.push(number, list)?;
+    draft.bodies.push(RuleBody {
+        origin,
+        declarations,
+    })
+}

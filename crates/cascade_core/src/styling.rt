@@ -1,0 +1,87 @@
+//! The style of an element (CSS Cascade 4, section 4.4).
+ghost use Rattle.cascade_core.specs.Givens.{given_view};
+ghost use Rattle.cascade_core.specs.StyledView.{styled_view};
+ghost use Rattle.cascade_core.specs.WinnersView.{winners_view};
+ghost use Rattle.cascade_model.specs.StyleEquation.{style_of};
+ghost use Rattle.prop_table.specs.Styles.{style_view};
+ghost use Rattle.std.specs.Option.{option_copied};
+ghost use Rattle.std.specs.Prelude.{◌≡◌, ◌++◌, ◌∷◌, [], IfOk, OnOk, OnErr, option_map};
+ghost use Rattle.stream_model.specs.Ledger.{pair};
+ghost use Rattle.stream_model.specs.declared.kind.Kind.TheVariants as kinds;
+
+use crate::answer_list::Answers;
+use crate::given::Given;
+use crate::resolving::{own_bases, part};
+use crate::styled::Styled;
+use crate::winners::Winners;
+use port_core::{Kind, NoMemory, NodeId, Steps};
+use prop_table::{Bases, Style, all_props};
+use std::alloc::Global;
+
+/// Returns the style of the element `id`, where these declarations win, and logs it. `b` is what
+/// lengths in `font-size` refer to.
+///
+/// # Errors
+///
+/// `NoMemory`; then nothing is logged.
+pub fn resolve<L: Drop>(
+    alloc: Global,
+    id: NodeId,
+    w: &Winners,
+    parent: Option<&Styled<L>>,
+    b: &Bases,
+    _answers: &Answers,
+    steps: &mut Steps<L>,
+) -> Result<Styled<L>, NoMemory>
+    ensures style { IfOk result (λ s. styled_view s ≡ style_of (record {
+      winners = winners_view w.now;
+      parent = option_map styled_view (option_copied parent.entry);
+      bases = b.now;
+    })) }
+    ensures logged { OnOk result (steps.new ≡ steps.old ++ pair kinds.Style id ∷ []) }
+    ensures kept { OnErr result (steps.new ≡ steps.old) }
+{
+    let given = Given {
+        winners: w,
+        parent: style_of_parent(parent),
+        bases: *b,
+    };
+    let style = style(alloc, &given)?;
+    steps.tick(Kind::Style, id);
+    Ok(Styled {
+        style,
+        bases: *b,
+        key: None,
+    })
+}
+
+impl<L> Styled<L> {
+    /// Returns the style.
+    pub fn style(&self) -> &Style
+        ensures { style_view result.now ≡ styled_view self.now }
+    {
+        &self.style
+    }
+}
+
+fn style_of_parent<L>(parent: Option<&Styled<L>>) -> Option<&Style>
+    ensures { option_map style_view (option_copied result)
+        ≡ option_map styled_view (option_copied parent.entry) }
+{
+    match parent {
+        Some(parent) => Some(&parent.style),
+        None => None,
+    }
+}
+
+/// The style that these make.
+#[tactic(auto, using(crate::proofs::StyleParts::parts_joined))]
+fn style(alloc: Global, g: &Given<'_>) -> Result<Style, NoMemory>
+    ensures { IfOk result (λ s. style_view s ≡ style_of (given_view g.now)) }
+{
+    let own = own_bases(alloc, g)?;
+    let boxes = part(alloc, g, &own, &all_props()[..15])?;
+    let borders = part(alloc, g, &own, &all_props()[15..27])?;
+    let rest = part(alloc, g, &own, &all_props()[27..])?;
+    Ok(Style::of_parts(boxes, borders, rest))
+}

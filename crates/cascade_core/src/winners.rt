@@ -1,0 +1,82 @@
+//! The declarations that win for an element (CSS Cascade 4, sections 4.2 and 6.1).
+ghost use Rattle.cascade_core.specs.AppliedViews.{all_placed, placed};
+ghost use Rattle.cascade_core.specs.Views.{all_kept_view, kept_view};
+ghost use Rattle.cascade_core.specs.inner.BothTables.{AreWinners, Takes};
+ghost use Rattle.cascade_model.specs.declared.origin.Origin.TheVariants as origin;
+ghost use Rattle.std.specs.Prelude.{◌≡◌, [], ◌∷◌, IfOk, OnOk};
+
+use crate::applied::Place;
+use crate::kept::Kept;
+use crate::table::Table;
+use cascade_model::Origin;
+use port_core::{NoMemory, Seq};
+use prop_table::Style;
+use std::alloc::Global;
+
+/// For each property the declaration that wins, and the one that wins among those of the user agent.
+#[derive(Debug, Drop)]
+pub(crate) struct BothTables {
+    pub(crate) all: Table,
+    pub(crate) user_agent: Table,
+}
+
+/// For each property the value that wins, and the one that wins among those of the user agent.
+#[derive(Debug, Drop)]
+pub struct Winners {
+    pub(crate) all: Table,
+    pub(crate) user_agent: Table,
+    /// The values of an element without a declaration, whose parts may be shared.
+    pub(crate) defaults: Style,
+}
+
+/// No declaration.
+pub(crate) fn no_winners(alloc: Global) -> Result<BothTables, NoMemory>
+    ensures { IfOk result (λ tables. AreWinners tables []) }
+{
+    Ok(BothTables {
+        all: Table::new(alloc)?,
+        user_agent: Table::new(alloc)?,
+    })
+}
+
+/// Takes declarations that stand in one place, one after another.
+pub(crate) fn take_all(tables: &mut BothTables, place: Place, kept: &[Kept]) -> Result<(), NoMemory>
+    ensures { OnOk result (Takes tables.old tables.new
+        (all_placed place (all_kept_view kept.now))) }
+{
+    for one in kept {
+        take(tables, place, one)?;
+    }
+    Ok(())
+}
+
+/// Takes one declaration.
+fn take(tables: &mut BothTables, place: Place, kept: &Kept) -> Result<(), NoMemory>
+    ensures { OnOk result (Takes tables.old tables.new (placed place (kept_view kept.now) ∷ [])) }
+{
+    match place.origin {
+        Origin::UserAgent => take_of_user_agent(tables, place, kept),
+        Origin::Author => take_of_author(tables, place, kept),
+    }
+}
+
+fn take_of_user_agent(tables: &mut BothTables, place: Place, kept: &Kept) -> Result<(), NoMemory>
+    requires { place.origin ≡ origin.UserAgent }
+    ensures { OnOk result (Takes tables.old tables.new (placed place (kept_view kept.now) ∷ [])) }
+{
+    let alone = place.applied(kept)?;
+    let among_all = place.applied(kept)?;
+    tables.user_agent.offer(alone);
+    tables.all.offer(among_all);
+    Ok(())
+}
+
+#[tactic(auto, using(crate::proofs::AreWinners::taken_by_one))]
+fn take_of_author(tables: &mut BothTables, place: Place, kept: &Kept) -> Result<(), NoMemory>
+    requires { place.origin ≡ origin.Author }
+    ensures { OnOk result (Takes tables.old tables.new (placed place (kept_view kept.now) ∷ [])) }
+{
+    let applied = place.applied(kept)?;
+    tables.all.offer(applied);
+    Ok(())
+}
