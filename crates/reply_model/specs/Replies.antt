@@ -1,20 +1,26 @@
 -- The reply to a line, and the replies to a script.
-use Rattle.std.specs.Prelude.{◌≡◌, ℕ, zero, suc, List, [], ◌∷◌, ◌++◌, Bool, true, false, Option, Some, None}
+use Rattle.std.specs.Prelude.{◌≡◌, ℕ, zero, suc, List, [], ◌∷◌, ◌++◌, Bool, true, false, Option, Some, None, is_some}
 use Rattle.stream_model.specs.Ledger.{Log}
+use Rattle.stream_model.specs.Lists.{AreDistinct, IsAmong}
+use Rattle.stream_model.specs.declared.kind.Kind.{Kind}
+use Rattle.stream_model.specs.declared.kind.Kind.TheVariants.{Match as matching, Style as styling, Measure, Size, Place}
+use Rattle.page_model.specs.Document.{name_at}
 use Rattle.page_model.specs.Pages.{Page, State}
 use Rattle.page_model.specs.Refusals.{Causes, first_of}
 use Rattle.page_model.specs.declared.cause.Cause.{Cause}
 use Rattle.request_model.specs.declared.query.Query.{Query}
-use Rattle.request_model.specs.declared.query.Query.TheVariants.{Dump, Match, Rules}
+use Rattle.request_model.specs.declared.query.Query.TheVariants.{Dump, Match, Rules, Style}
 use Rattle.request_model.specs.declared.accepted.Accepted.{Accepted}
 use Rattle.request_model.specs.Requests.{Edit, Request, edit, query, Asked, asked_of_line}
-use Rattle.request_model.specs.States.{Answer, silent, refused, accepted, answer_to, accepted_by, brings_tree, state_after_edit, logs_of, logs_of_refused}
+use Rattle.request_model.specs.States.{Answer, silent, refused, accepted, answer_to, accepted_by, brings_tree, state_after_edit, logs_of, logs_of_asked}
 use Rattle.layout_model.specs.Setting.{Setting}
 use Rattle.layout_model.specs.Consistent.{Assignment, Consistent}
 use Rattle.reply_model.specs.Spelling.{ok_line, ok_nodes_line, error_line}
 use Rattle.reply_model.specs.DumpText.{dump_text}
 use Rattle.reply_model.specs.RulesText.{rules_text}
 use Rattle.reply_model.specs.MatchText.{match_text}
+use Rattle.reply_model.specs.StyleText.{AreStylesOf, style_text}
+use Rattle.cascade_model.specs.DocumentStyles.{Styles}
 
 -- where a script has come to: what is loaded, and what the last accepted edit logged
 pub record Course : Type 0 where
@@ -27,8 +33,31 @@ start = record { state = None; last = [] }
 
 -- ---- logs
 
--- what a request that is carried out may log, under the assignment that it reads, if it reads one: nothing is counted yet
+-- the kinds of work that styles take
+abbrev pub is_for_styles : Kind → Bool
+is_for_styles matching = true
+is_for_styles styling = true
+is_for_styles Measure = false
+is_for_styles Size = false
+is_for_styles Place = false
+
+-- this id is an element's
+abbrev pub is_element_of : State → ℕ → Bool
+is_element_of None i = false
+is_element_of (Some page) i = is_some (name_at i page.document.root)
+
+-- such work on an element
+abbrev pub IsStyleWork : State → Kind × ℕ → Type 0
+IsStyleWork s work = (is_for_styles work.0 ≡ true) × (is_element_of s work.1 ≡ true)
+
+-- each of some elements is matched and styled at most once, and nothing else is done
+abbrev pub IsStyleLog : State → Log → Type 0
+IsStyleLog s log = AreDistinct log × ((work : Kind × ℕ) → IsAmong work log → IsStyleWork s work)
+
+-- what a request that is carried out may log, under the assignment that it reads, if it reads one: no work
+-- of layout is counted yet
 abbrev pub IsLogOf : Setting → Course → Request → Option Assignment → Log → Type 0
+IsLogOf setting from (query (Style i)) a log = IsStyleLog from.state log
 IsLogOf setting from q a log = log ≡ []
 
 -- n logs with this property
@@ -43,7 +72,7 @@ AreLogsOf setting from q a own = AreLogs (logs_of q) (IsLogOf setting from q a) 
 
 -- the logs of what is refused: nothing is logged
 abbrev pub AreRefusedLogs : Asked → List Log → Type 0
-AreRefusedLogs asked own = AreLogs (logs_of_refused asked) (λ log. log ≡ []) own
+AreRefusedLogs asked own = AreLogs (logs_of_asked asked) (λ log. log ≡ []) own
 
 -- the newest of these logs, or the last one before them
 abbrev pub newest : List Log → Log → Log
@@ -61,7 +90,8 @@ abbrev pub text_unless : Option Cause → List ℕ → List ℕ
 text_unless None text = text
 text_unless (Some c) text = error_line c
 
--- the reply to a query of a page, and what it logs; a dump is by the one consistent assignment
+-- the reply to a query of a page, and what it logs; a dump is by the one consistent assignment, and a style
+-- by the styles of the cascade
 abbrev pub IsReplyOn : Page → Setting → Course → Query → List Log → List ℕ → Type 0
 IsReplyOn page setting from Dump own reply =
     (a : Assignment) × Consistent setting page a × AreLogsOf setting from (query Dump) (Some a) own
@@ -71,6 +101,9 @@ IsReplyOn page setting from Rules own reply =
 IsReplyOn page setting from (Match selector) own reply =
     AreLogsOf setting from (query (Match selector)) None own
     × (reply ≡ match_text selector page.document.root ++ ok_line)
+IsReplyOn page setting from (Style i) own reply =
+    (styles : Styles) × AreStylesOf page styles × AreLogsOf setting from (query (Style i)) None own
+    × (reply ≡ style_text (styles i) ++ ok_line)
 
 -- the reply to a query of what is loaded
 abbrev pub IsQueryReply : State → Setting → Course → Query → List Log → List ℕ → Type 0

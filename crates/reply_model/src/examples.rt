@@ -170,9 +170,11 @@ pub fn examples_of_turns()
         → IsAnswered (refused c) setting from (request (edit e)) own reply to → own ≡ [] ∷ [] }
     ensures nothing_is_counted { (setting : Setting) (from : Course) (q : Request) (a : Option Assignment)
         → IsLogOf setting from q a [] }
-    ensures logs_are_empty { (setting : Setting) (from : Course) (q : Request)
+    ensures edits_count_nothing { (setting : Setting) (from : Course) (e : Edit)
         (a : Option Assignment) (log : Log)
-        → IsLogOf setting from q a log → log ≡ [] }
+        → IsLogOf setting from (edit e) a log → log ≡ [] }
+    ensures dumps_count_nothing { (setting : Setting) (from : Course) (a : Option Assignment) (log : Log)
+        → IsLogOf setting from (query Dump) a log → log ≡ [] }
     ensures edit_leads { (setting : Setting) (from to : Course) (asked : Asked) (own : List Log)
         (reply : List ℕ) (e : Edit)
         → IsAnswered (accepted (edit e)) setting from asked own reply to
@@ -184,10 +186,10 @@ pub fn examples_of_turns()
     ensures edit_logs_once { (setting : Setting) (from to : Course) (asked : Asked) (own : List Log)
         (reply : List ℕ) (e : Edit)
         → IsAnswered (accepted (edit e)) setting from asked own reply to → own ≡ [] ∷ [] }
-    ensures dump_logs_nothing { (setting : Setting) (page : Page) (to : Course) (asked : Asked)
+    ensures dump_logs_once { (setting : Setting) (page : Page) (to : Course) (asked : Asked)
         (own : List Log) (reply : List ℕ)
         → IsAnswered (accepted (query Dump)) setting (record { state = Some page; last = [] })
-        asked own reply to → own ≡ [] }
+        asked own reply to → own ≡ [] ∷ [] }
     ensures dump_says { (setting : Setting) (page : Page) (to : Course) (asked : Asked)
         (own : List Log) (reply : List ℕ)
         → IsAnswered (accepted (query Dump)) setting (record { state = Some page; last = [] })

@@ -5,7 +5,12 @@
 mod examples;
 mod match_examples;
 mod rules_examples;
+mod style_examples;
 
 pub use examples::{examples_of_dumps, examples_of_lines, examples_of_scripts, examples_of_turns};
 pub use match_examples::{examples_of_match_lines, examples_of_match_replies};
 pub use rules_examples::{examples_of_quoted_strings, examples_of_rule_lines};
+pub use style_examples::{
+    examples_of_style_logs, examples_of_style_replies, examples_of_style_texts,
+    examples_of_value_texts,
+};

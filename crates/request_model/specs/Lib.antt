@@ -1,2 +1,4 @@
 pub mod Requests
+pub mod UnbuiltStyles
 pub mod States
+pub mod inner

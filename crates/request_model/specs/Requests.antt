@@ -12,7 +12,7 @@ use Rattle.page_model.specs.Jsonml.{doc_of, tree_of}
 use Rattle.page_model.specs.declared.cause.Cause.{Cause}
 use Rattle.page_model.specs.declared.cause.Cause.TheVariants.{BadJson, BadRequest, LineTooLong, NotBuilt}
 use Rattle.request_model.specs.declared.query.Query.{Query}
-use Rattle.request_model.specs.declared.query.Query.TheVariants.{Dump, Match, Rules}
+use Rattle.request_model.specs.declared.query.Query.TheVariants.{Dump, Match, Rules, Style}
 
 -- a request that may change what is loaded
 pub data Edit : Type 0 where
@@ -138,6 +138,14 @@ match_from members None = None
 unfoldable pub match_of : Data → Option Query
 match_of d = match_from (members d) (string_at (codes "selector") d)
 
+-- a style of its id, where the object has no other member
+abbrev pub style_from : ℕ → Option ℕ → Option Query
+style_from members (Some id) = if members == 2 then Some (Style id) else None
+style_from members None = None
+
+unfoldable pub style_of : Data → Option Query
+style_of d = style_from (members d) (number_at (codes "id") d)
+
 -- the request that an object is whose `do` has this value
 unfoldable pub request_named : List ℕ → Data → Option Request
 request_named name d =
@@ -147,13 +155,14 @@ request_named name d =
     else (if bytes_eq name (codes "sheet") then option_map edit (sheet_of d)
     else (if bytes_eq name (codes "dump") then option_map query (dump_of d)
     else (if bytes_eq name (codes "rules") then option_map query (rules_of d)
-    else (if bytes_eq name (codes "match") then option_map query (match_of d) else None))))))
+    else (if bytes_eq name (codes "match") then option_map query (match_of d)
+    else (if bytes_eq name (codes "style") then option_map query (style_of d) else None)))))))
 
 -- the names of the requests that are not built yet
 abbrev pub names_not_built : List (List ℕ)
 names_not_built =
-    codes "style" ∷ codes "resize" ∷ codes "move" ∷ codes "set-attr" ∷ codes "drop-attr" ∷ codes "set-text"
-    ∷ codes "counts" ∷ []
+    codes "resize" ∷ codes "move" ∷ codes "set-attr" ∷ codes "drop-attr" ∷ codes "set-text" ∷ codes "counts"
+    ∷ []
 
 unfoldable pub is_name_not_built : List ℕ → Bool
 is_name_not_built name = list_any (bytes_eq name) names_not_built

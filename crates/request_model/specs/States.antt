@@ -2,22 +2,23 @@
 use Rattle.std.specs.Prelude.{ℕ, ◌||◌, List, [], ◌∷◌, ◌++◌, Bool, true, false, length, take, drop, suc, not, nat_lt, max, Option, Some, None, is_none, is_some, option_map, unwrap_or, codes}
 use Rattle.std.specs.List.{list_any}
 use Rattle.page_model.specs.Trees.{Text, Tree, has_node, size}
-use Rattle.page_model.specs.Document.{Document, Node, document, name_at, value_at}
+use Rattle.page_model.specs.Document.{Document, Node, document, find, name_at, value_at}
 use Rattle.page_model.specs.Refusals.{Causes, first_of}
 use Rattle.page_model.specs.Edits.{load_causes, insert_causes, remove_causes, document_after_insert, document_after_remove}
 use Rattle.page_model.specs.Pages.{Page, State}
 use Rattle.page_model.specs.declared.limits.TheConstants.{MAX_SIDE}
 use Rattle.page_model.specs.declared.cause.Cause.{Cause}
-use Rattle.page_model.specs.declared.cause.Cause.TheVariants.{NotLoaded, ViewportRange, SheetLimit, NoSheet, BadSelector, NotBuilt}
+use Rattle.page_model.specs.declared.cause.Cause.TheVariants.{NotLoaded, NoNode, NotElement, ViewportRange, SheetLimit, NoSheet, BadSelector, NotBuilt}
 use Rattle.rules_model.specs.Sheets.{limit_of_sheet, style_rules_of}
 use Rattle.rules_model.specs.declared.limits.TheConstants.{MAX_SHEETS}
 use Rattle.selectors_model.specs.Elements.{is_same_name}
 use Rattle.selectors_model.specs.Matching.{elements_of}
 use Rattle.selectors_model.specs.SelectorTexts.{selector_list_of_text}
 use Rattle.request_model.specs.declared.query.Query.{Query}
-use Rattle.request_model.specs.declared.query.Query.TheVariants.{Dump, Match, Rules}
+use Rattle.request_model.specs.declared.query.Query.TheVariants.{Dump, Match, Rules, Style}
 use Rattle.request_model.specs.declared.accepted.Accepted.{Accepted}
 use Rattle.request_model.specs.Requests.{Edit, load, insert, remove, sheet, Request, edit, query, Asked, nothing, broken, request}
+use Rattle.request_model.specs.UnbuiltStyles.{has_unbuilt_styles}
 
 -- ---- refusals
 
@@ -79,12 +80,21 @@ is_styled_page page =
     list_any has_style_rule page.sheets
     || list_any (is_styled page.document.root) (elements_of page.document.root)
 
+-- why the style of a node is refused: it is not there, or a text, or styles of the page are not built yet
+abbrev pub style_causes : ℕ → Page → Causes
+style_causes i page =
+    (is_none (find i page.document.root), NoNode)
+    ∷ (is_none (name_at i page.document.root), NotElement)
+    ∷ (has_unbuilt_styles page, NotBuilt)
+    ∷ []
+
 -- why a query is refused, whatever its assignment is
 abbrev pub query_causes : State → Query → Causes
 query_causes s Dump = needs_page s (λ page. (is_styled_page page, NotBuilt) ∷ [])
 query_causes s Rules = needs_page s (λ _. [])
 query_causes s (Match selector) =
     needs_page s (λ _. (is_none (selector_list_of_text selector), BadSelector) ∷ [])
+query_causes s (Style i) = needs_page s (style_causes i)
 
 abbrev pub request_causes : State → Request → Causes
 request_causes s (edit e) = edit_causes s e
@@ -170,20 +180,17 @@ answer_to s (request q) = answer_by q (refusal_of s q)
 
 -- ---- logs
 
--- the number of logs that a request begins which is carried out
+-- the number of logs that a request begins, whether it is carried out or refused: an edit begins one, and
+-- what computes styles or boxes
 abbrev pub logs_of : Request → ℕ
 logs_of (edit e) = 1
-logs_of (query q) = 0
+logs_of (query Dump) = 1
+logs_of (query Rules) = 0
+logs_of (query (Match selector)) = 0
+logs_of (query (Style i)) = 1
 
--- the number of logs that is begun by what is refused: an edit in the grammar begins one
-abbrev pub logs_of_refused : Asked → ℕ
-logs_of_refused nothing = 0
-logs_of_refused (broken c) = 0
-logs_of_refused (request (edit e)) = 1
-logs_of_refused (request (query q)) = 0
-
--- the most logs that are begun by what a line asks for
-abbrev pub most_logs : Asked → ℕ
-most_logs nothing = 0
-most_logs (broken c) = 0
-most_logs (request q) = max (logs_of q) (logs_of_refused (request q))
+-- the number of logs that is begun by what a line asks for
+abbrev pub logs_of_asked : Asked → ℕ
+logs_of_asked nothing = 0
+logs_of_asked (broken c) = 0
+logs_of_asked (request q) = logs_of q

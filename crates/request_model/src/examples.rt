@@ -5,9 +5,9 @@ ghost use Rattle.serde_json.specs.Read.{read};
 ghost use Rattle.page_model.specs.Trees.{Tree, elem, characters, no_trees, tree};
 ghost use Rattle.page_model.specs.Document.{element, text, node, no_nodes};
 ghost use Rattle.page_model.specs.declared.cause.Cause.TheVariants.{LineTooLong, NotElement, BadJson, BadRequest, NotLoaded, NoNode, IsRoot, BadIndex, ViewportRange, NotBuilt};
-ghost use Rattle.request_model.specs.declared.query.Query.TheVariants.{Dump};
+ghost use Rattle.request_model.specs.declared.query.Query.TheVariants.{Dump, Rules, Style};
 ghost use Rattle.request_model.specs.Requests.{load, insert, remove, edit, query, nothing, broken, request, asked_of, asked_of_line, value_of, is_name_not_built, Edit};
-ghost use Rattle.request_model.specs.States.{silent, brings_tree, edit_causes, refusal_of, answer_to, accepted, refused, state_after_edit, accepted_by, next_id, logs_of, logs_of_refused, most_logs};
+ghost use Rattle.request_model.specs.States.{silent, brings_tree, edit_causes, refusal_of, answer_to, accepted, refused, state_after_edit, accepted_by, next_id, logs_of, logs_of_asked};
 ghost use Rattle.std.specs.List.{list_all, list_any};
 ghost use Rattle.stream_model.specs.Lines.{is_blank, is_too_long};
 ghost use Rattle.page_model.specs.Refusals.{first_of};
@@ -112,12 +112,12 @@ pub fn examples_of_requests()
         (member (codes "width") (number (unsigned 1)) no_members)))))))
         ≡ broken BadRequest }
     ensures names_not_built { list_all is_name_not_built
-        (codes "style" ∷ codes "resize" ∷ codes "move"
-        ∷ codes "set-attr" ∷ codes "drop-attr" ∷ codes "set-text" ∷ codes "counts" ∷ [])
+        (codes "resize" ∷ codes "move" ∷ codes "set-attr" ∷ codes "drop-attr" ∷ codes "set-text"
+        ∷ codes "counts" ∷ [])
         ≡ true }
     ensures names_built { list_any is_name_not_built
         (codes "load" ∷ codes "insert" ∷ codes "remove" ∷ codes "sheet" ∷ codes "dump" ∷ codes "rules"
-        ∷ codes "match" ∷ [])
+        ∷ codes "match" ∷ codes "style" ∷ [])
         ≡ false }
     ensures insert_with_another { asked_of (Some (object (member (codes "a") null
         (member (codes "do") (string (codes "insert"))
@@ -218,12 +218,12 @@ pub fn examples_of_states()
           viewport = record { width = 3; height = 4 };
         }) }
     ensures edit_begins { (e : Edit) → logs_of (edit e) ≡ 1 }
-    ensures dump_begins_none { logs_of (query Dump) ≡ 0 }
-    ensures refused_edit_begins { (e : Edit) → logs_of_refused (request (edit e)) ≡ 1 }
-    ensures refused_dump_begins_none { logs_of_refused (request (query Dump)) ≡ 0 }
-    ensures blank_begins_none { logs_of_refused nothing ≡ 0 }
-    ensures broken_begins_none { logs_of_refused (broken NotBuilt) ≡ 0 }
-    ensures most { (e : Edit) → most_logs (request (edit e)) ≡ 1 }
+    ensures dump_begins { logs_of (query Dump) ≡ 1 }
+    ensures style_begins { (i : ℕ) → logs_of (query (Style i)) ≡ 1 }
+    ensures rules_begin_none { logs_of (query Rules) ≡ 0 }
+    ensures blank_begins_none { logs_of_asked nothing ≡ 0 }
+    ensures broken_begins_none { logs_of_asked (broken NotBuilt) ≡ 0 }
+    ensures asked_edit_begins { (e : Edit) → logs_of_asked (request (edit e)) ≡ 1 }
 {}
 
 /// A line is looked at by its length first, and then whether it is blank (RFC 8259 section 8.1).

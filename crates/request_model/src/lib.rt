@@ -9,6 +9,7 @@ mod match_examples;
 mod name_examples;
 mod query;
 mod sheet_examples;
+mod style_examples;
 
 pub use accepted::Accepted;
 pub use examples::{
@@ -20,4 +21,8 @@ pub use query::Query;
 pub use sheet_examples::{
     examples_of_asking_for_sheets, examples_of_dumps_with_sheets, examples_of_loaded_sheets,
     examples_of_sheet_causes, examples_of_sheets, examples_of_style_rules,
+};
+pub use style_examples::{
+    examples_of_asking_for_styles, examples_of_style_causes, examples_of_unbuilt_pages,
+    examples_of_unbuilt_values,
 };

@@ -11,4 +11,6 @@ pub enum Query {
     Rules,
     /// The elements that a selector list matches (Selectors 4, section 4.1): its text.
     Match(Text),
+    /// The style of the element with this id (CSS Cascade 4, section 4.4).
+    Style(u64),
 }

@@ -1,6 +1,6 @@
 -- Words and documents of the examples.
-use Rattle.std.specs.Prelude.{ℕ, List, [], ◌∷◌, ◌++◌, codes}
-use Rattle.std.specs.Fmt.{decimal}
+use Rattle.std.specs.Prelude.{ℕ, ℤ, pos, List, [], ◌∷◌, ◌++◌, codes}
+use Rattle.std.specs.Fmt.{decimal, signed_decimal}
 use Rattle.page_model.specs.Document.{Node, element, text, no_nodes, node}
 
 -- a rule line of its numbers and its prelude in quotes
@@ -22,3 +22,34 @@ other_order = element 7 (codes "x") []
     (node (element 5 (codes "b") [] no_nodes)
     (node (element 3 (codes "a") [] (node (text 2 (codes "t")) (node (element 4 (codes "b") [] no_nodes) no_nodes)))
     no_nodes))
+
+-- a line of a name and a number
+abbrev pub with_number : List ℕ → ℤ → List ℕ
+with_number name n = name ++ (codes ": " ++ (signed_decimal n ++ codes "\n"))
+
+-- the lines of the initial values; a border is of medium width where it has a style
+abbrev pub initial_lines : List ℕ
+initial_lines =
+    codes "display: inline\nwidth: auto\nheight: auto\n"
+    ++ (with_number (codes "min-width") (pos 0) ++ (with_number (codes "min-height") (pos 0)
+    ++ (codes "max-width: none\nmax-height: none\n"
+    ++ (with_number (codes "margin-top") (pos 0) ++ (with_number (codes "margin-right") (pos 0)
+    ++ (with_number (codes "margin-bottom") (pos 0) ++ (with_number (codes "margin-left") (pos 0)
+    ++ (with_number (codes "padding-top") (pos 0) ++ (with_number (codes "padding-right") (pos 0)
+    ++ (with_number (codes "padding-bottom") (pos 0) ++ (with_number (codes "padding-left") (pos 0)
+    ++ (with_number (codes "border-top-width") (pos 192) ++ (with_number (codes "border-right-width") (pos 192)
+    ++ (with_number (codes "border-bottom-width") (pos 192)
+    ++ (with_number (codes "border-left-width") (pos 192)
+    ++ (codes "border-top-style: none\nborder-right-style: none\n"
+    ++ (codes "border-bottom-style: none\nborder-left-style: none\n"
+    ++ (codes "border-top-color: currentcolor\nborder-right-color: currentcolor\n"
+    ++ (codes "border-bottom-color: currentcolor\nborder-left-color: currentcolor\n"
+    ++ (codes "box-sizing: content-box\n"
+    ++ (with_number (codes "font-size") (pos 1024)
+    ++ (codes "line-height: normal\ncolor: #000000ff\nbackground-color: #00000000\n"
+    ++ (codes "text-align: left\nwhite-space: normal\noverflow: visible\ncontain: none\n"
+    ++ (codes "container-type: normal\ncontainer-name: none\nvisibility: visible\n"
+    ++ (with_number (codes "opacity") (pos 1000000)
+    ++ (codes "font-style: normal\n"
+    ++ (with_number (codes "font-weight") (pos 400)
+    ++ codes "z-index: auto\ntext-decoration-line: none\npointer-events: auto\n")))))))))))))))))))))))))))

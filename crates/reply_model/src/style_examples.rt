@@ -1,0 +1,114 @@
+//! Lines of `style`, and what styles log.
+ghost use Rattle.std.specs.Prelude.{◌≡◌, ℕ, List, ℤ, pos, negsuc, [], ◌∷◌, ◌++◌, codes, map, Some, None, true, false};
+ghost use Rattle.std.specs.Fmt.{signed_decimal};
+ghost use Rattle.stream_model.specs.Ledger.{Log};
+ghost use Rattle.stream_model.specs.declared.kind.Kind.TheVariants.{Match, Style as styling, Measure, Size, Place};
+ghost use Rattle.page_model.specs.Pages.{Page};
+ghost use Rattle.page_model.specs.declared.viewport.Viewport.{Viewport};
+ghost use Rattle.request_model.specs.Requests.{Asked, query};
+ghost use Rattle.request_model.specs.States.{accepted};
+ghost use Rattle.request_model.specs.declared.query.Query.TheVariants.{Style};
+ghost use Rattle.layout_model.specs.Setting.{Setting};
+ghost use Rattle.cascade_model.specs.DocumentStyles.{Styles};
+ghost use Rattle.reply_model.specs.Replies.{Course, IsAnswered, IsStyleLog};
+ghost use Rattle.reply_model.specs.Spelling.{ok_line};
+ghost use Rattle.reply_model.specs.StyleText.{AreStylesOf, style_lines, style_text, value_line};
+ghost use Rattle.reply_model.specs.ValueTexts.{final_text};
+ghost use Rattle.reply_model.specs.inner.Examples.{other_order, initial_lines};
+ghost use Rattle.value_model.specs.declared.color.Color.TheVariants.{CurrentColor, Rgba as AnRgba};
+ghost use Rattle.value_model.specs.declared.keyword.Keyword.TheVariants.{InlineBlock, None as NoneKeyword};
+ghost use Rattle.value_model.specs.declared.prop.Prop.TheVariants.{BorderTopColor, LineHeight, Width};
+ghost use Rattle.value_model.specs.Colors.{rgba};
+ghost use Rattle.value_model.specs.Lengths.{in_percent, in_units};
+ghost use Rattle.value_model.specs.Properties.{properties, property};
+ghost use Rattle.value_model.specs.Values.{keyword, length, number, alpha, integer, color, containment, names};
+
+/// The texts of values of each form.
+#[tactic(auto, unfolding(crate::specs::Spelling::quoted))]
+pub fn examples_of_value_texts()
+    ensures keyword { final_text (keyword InlineBlock) ≡ codes "inline-block" }
+    ensures none { final_text (keyword NoneKeyword) ≡ codes "none" }
+    ensures units { final_text (length (in_units (pos 64))) ≡ signed_decimal (pos 64) }
+    ensures negative_units { final_text (length (in_units (negsuc 63))) ≡ signed_decimal (negsuc 63) }
+    ensures percent { final_text (length (in_percent (pos 10000000)))
+        ≡ codes "pct:" ++ signed_decimal (pos 10000000) }
+    ensures number { final_text (number (pos 1250000)) ≡ codes "num:" ++ signed_decimal (pos 1250000) }
+    ensures alpha { final_text (alpha (pos 1000000)) ≡ signed_decimal (pos 1000000) }
+    ensures integer { final_text (integer (negsuc 0)) ≡ signed_decimal (negsuc 0) }
+    ensures color { final_text (color (AnRgba (rgba 255 165 0 16))) ≡ codes "#ffa50010" }
+    ensures black { final_text (color (AnRgba (rgba 0 0 0 255))) ≡ codes "#000000ff" }
+    ensures current_color { final_text (color CurrentColor) ≡ codes "currentcolor" }
+    ensures no_containment { final_text (containment (record {
+      size = false;
+      inline_size = false;
+      layout = false;
+      style = false;
+      paint = false;
+    })) ≡ codes "none" }
+    ensures strict { final_text (containment (record {
+      size = true;
+      inline_size = false;
+      layout = true;
+      style = true;
+      paint = true;
+    })) ≡ codes "size layout style paint" }
+    ensures inline_size { final_text (containment (record {
+      size = false;
+      inline_size = true;
+      layout = false;
+      style = false;
+      paint = true;
+    })) ≡ codes "inline-size paint" }
+    ensures no_names { final_text (names []) ≡ codes "none" }
+    ensures one_name { final_text (names (codes "a" ∷ [])) ≡ codes "\"a\"" }
+    ensures two_names { final_text (names (codes "a" ∷ codes "\"" ∷ [])) ≡ codes "\"a\" \"\\\"\"" }
+{}
+
+/// A line has the name of a property and its value; there is one for each property, in their order.
+#[tactic(auto, unfolding(crate::specs::StyleText::value_line, crate::specs::StyleText::style_lines))]
+pub fn examples_of_style_texts()
+    ensures width { value_line Width (length (in_percent (pos 1)))
+        ≡ codes "width: pct:" ++ (signed_decimal (pos 1) ++ codes "\n") }
+    ensures side { value_line BorderTopColor (color CurrentColor) ≡ codes "border-top-color: currentcolor\n" }
+    ensures number { value_line LineHeight (number (pos 2))
+        ≡ codes "line-height: num:" ++ (signed_decimal (pos 2) ++ codes "\n") }
+    ensures initial { style_lines (map (λ p. (property p).initial) properties) ≡ initial_lines }
+    ensures no_style { style_text None ≡ [] }
+    ensures a_style { style_text (Some []) ≡ style_lines [] }
+{}
+
+/// A style logs that elements are matched and styled, each at most once.
+pub fn examples_of_style_logs()
+    ensures nothing { (page : Page) → IsStyleLog (Some page) [] }
+    ensures elements { (viewport : Viewport) → IsStyleLog (Some (record {
+      document = record { root = other_order; next_id = 8 };
+      sheets = [];
+      viewport = viewport;
+    })) ((Match, 7) ∷ (styling, 7) ∷ (Match, 3) ∷ (styling, 3) ∷ []) }
+    ensures twice { (page : Page)
+        → IsStyleLog (Some page) ((Match, 0) ∷ (styling, 0) ∷ (Match, 0) ∷ []) → ⊥ }
+    ensures a_text { (viewport : Viewport) → IsStyleLog (Some (record {
+      document = record { root = other_order; next_id = 8 };
+      sheets = [];
+      viewport = viewport;
+    })) ((Match, 2) ∷ []) → ⊥ }
+    ensures measured { (page : Page) → IsStyleLog (Some page) ((Measure, 0) ∷ []) → ⊥ }
+    ensures sized { (page : Page) → IsStyleLog (Some page) ((Size, 0) ∷ []) → ⊥ }
+    ensures placed { (page : Page) → IsStyleLog (Some page) ((Place, 0) ∷ []) → ⊥ }
+    ensures nothing_loaded { IsStyleLog None ((Match, 0) ∷ []) → ⊥ }
+{}
+
+/// The reply is the lines of the element's style and then `ok`; one log is begun, and what is loaded
+/// stays.
+pub fn examples_of_style_replies()
+    ensures says { (setting : Setting) (page : Page) (to : Course) (asked : Asked) (own : List Log)
+        (reply : List ℕ) (i : ℕ)
+        → IsAnswered (accepted (query (Style i))) setting (record { state = Some page; last = [] })
+        asked own reply to
+        → (styles : Styles) × AreStylesOf page styles × (reply ≡ style_text (styles i) ++ ok_line) }
+    ensures logs { (setting : Setting) (page : Page) (to : Course) (asked : Asked) (own : List Log)
+        (reply : List ℕ) (i : ℕ)
+        → IsAnswered (accepted (query (Style i))) setting (record { state = Some page; last = [] })
+        asked own reply to
+        → (log : Log) × IsStyleLog (Some page) log × (own ≡ log ∷ []) }
+{}

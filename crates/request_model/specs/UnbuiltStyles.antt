@@ -1,0 +1,77 @@
+-- Which pages have styles that are not built yet: those with custom properties, functions, units of
+-- containers, or conditions.
+use Rattle.std.specs.Prelude.{ℕ, ◌||◌, not, List, [], ◌∷◌, codes, Bool, true, false, Option}
+use Rattle.std.specs.Char.{eq_ignore_ascii_case}
+use Rattle.std.specs.List.{list_any, starts_with}
+use Rattle.std.specs.Option.{option_map_or}
+use Rattle.std.specs.Str.{str_eq_ignore_ascii_case}
+use Rattle.css_model.specs.Classes.{Text}
+use Rattle.css_model.specs.Components.{Components, all_tokens_of}
+use Rattle.css_model.specs.declared.token.Token.{Token}
+use Rattle.css_model.specs.declared.token.TokenType.{TokenType}
+use Rattle.css_model.specs.declared.token.TokenType.TheVariants.{Dimension, Function}
+use Rattle.page_model.specs.Document.{Node, value_at}
+use Rattle.page_model.specs.Pages.{Page}
+use Rattle.rules_model.specs.Declarations.{Declaration}
+use Rattle.rules_model.specs.Rules.{Condition, StyleRule}
+use Rattle.rules_model.specs.Sheets.{style_attr_of, style_rules_of}
+use Rattle.selectors_model.specs.Matching.{elements_of}
+use Rattle.value_model.specs.Lengths.{bases_of_unit, unit_of}
+use Rattle.value_model.specs.declared.length_unit.LengthUnit.{LengthUnit}
+
+-- ---- values
+
+-- references to custom properties, and calculations (CSS Variables 1, section 3; CSS Values 4, section 10)
+abbrev pub unbuilt_functions : List Text
+unbuilt_functions = codes "var" ∷ codes "calc" ∷ codes "min" ∷ codes "max" ∷ codes "clamp" ∷ []
+
+-- a unit refers to a container (CSS Conditional 5, section 7)
+abbrev pub refers_to_container : LengthUnit → Bool
+refers_to_container u = (bases_of_unit u.base).cqw || (bases_of_unit u.base).cqh
+
+abbrev pub is_unbuilt_type : TokenType → Bool
+is_unbuilt_type (Function name) = list_any (str_eq_ignore_ascii_case name) unbuilt_functions
+is_unbuilt_type (Dimension n name) = option_map_or refers_to_container (unit_of name) false
+is_unbuilt_type other = false
+
+abbrev pub is_unbuilt_token : Token → Bool
+is_unbuilt_token t = is_unbuilt_type t.token_type
+
+-- such a function or unit stands in the value, however deep
+abbrev pub is_unbuilt_value : Components → Bool
+is_unbuilt_value value = list_any is_unbuilt_token (all_tokens_of value)
+
+-- ---- declarations
+
+-- the name of a custom property begins with two hyphens (CSS Variables 1, section 2)
+abbrev pub is_custom_name : Text → Bool
+is_custom_name name = starts_with eq_ignore_ascii_case name (codes "--")
+
+abbrev pub is_unbuilt_declaration : Declaration → Bool
+is_unbuilt_declaration d = is_custom_name d.name || is_unbuilt_value d.value
+
+abbrev pub has_unbuilt : List Declaration → Bool
+has_unbuilt ds = list_any is_unbuilt_declaration ds
+
+-- ---- pages
+
+abbrev pub is_conditional : List Condition → Bool
+is_conditional [] = false
+is_conditional (c ∷ around) = true
+
+-- a rule inside `@media` or `@container`, or with such a declaration
+abbrev pub is_unbuilt_rule : StyleRule → Bool
+is_unbuilt_rule r = is_conditional r.conditions || has_unbuilt r.declarations
+
+abbrev pub has_unbuilt_rule : Text → Bool
+has_unbuilt_rule css = list_any is_unbuilt_rule (style_rules_of css)
+
+-- the `style` attribute of an element has such a declaration
+abbrev pub has_unbuilt_attribute : Node → ℕ → Bool
+has_unbuilt_attribute root i =
+    option_map_or (λ text. has_unbuilt (style_attr_of text)) (value_at (codes "style") i root) false
+
+abbrev pub has_unbuilt_styles : Page → Bool
+has_unbuilt_styles page =
+    list_any has_unbuilt_rule page.sheets
+    || list_any (has_unbuilt_attribute page.document.root) (elements_of page.document.root)
