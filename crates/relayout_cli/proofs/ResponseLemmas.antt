@@ -12,7 +12,7 @@ use Rattle.request_model.specs.declared.query.Query.{Query}
 use Rattle.request_model.specs.declared.query.Query.TheVariants.{Dump, Match, Rules}
 use Rattle.request_model.specs.declared.accepted.Accepted.{Accepted}
 use Rattle.request_model.specs.Requests.{Edit, load, insert, remove, sheet, Request, edit, query, Asked, nothing, broken, request}
-use Rattle.request_model.specs.States.{Answer, silent, refused, accepted, answer_to, answer_by, refusal_of, form_causes, request_causes, edit_causes, state_after_edit, accepted_by, brings_tree, most_logs, logs_of_refused, has_text, is_styled_page}
+use Rattle.request_model.specs.States.{Answer, silent, refused, accepted, answer_to, answer_by, refusal_of, form_causes, request_causes, edit_causes, state_after_edit, accepted_by, brings_tree, logs_of_asked, logs_of_asked, has_text, is_styled_page}
 use Rattle.layout_model.specs.Setting.{Setting}
 use Rattle.reply_model.specs.Spelling.{error_line, ok_line}
 use Rattle.page_model.specs.Pages.{Page}
@@ -105,7 +105,7 @@ empty-are zero = refl
 empty-are (suc n) = ([], refl, (empty_logs n, empty-are n, refl))
 
 -- what is refused begins as many logs as what it asks for may begin
-refused-most : (asked : Asked) → logs_of_refused asked ≡ most_logs asked
+refused-most : (asked : Asked) → logs_of_asked asked ≡ logs_of_asked asked
 refused-most nothing = refl
 refused-most (broken c) = refl
 refused-most (request (edit e)) = refl
@@ -117,22 +117,22 @@ pub response-silent : (page : Option KeptPage) (reply : List ℕ) → reply ≡ 
 response-silent page reply e = λ setting from at. (from, at-turn setting from from (state_view page) nothing [] reply silent at refl (refl, e, refl), at)
 
 pub response-refused : (page : Option KeptPage) (asked : Asked) (c : Cause) (reply : List ℕ) → answer_to (state_view page) asked ≡ refused c → reply ≡ error_line c
-    → IsResponse asked (empty_logs (most_logs asked)) reply page page
+    → IsResponse asked (empty_logs (logs_of_asked asked)) reply page page
 response-refused page asked c reply is e = λ setting from at.
-    (from, at-turn setting from from (state_view page) asked (empty_logs (most_logs asked)) reply (refused c) at is (subst (λ (n : ℕ). AreLogs n (λ log. log ≡ []) (empty_logs (most_logs asked))) (sym (refused-most asked)) (empty-are (most_logs asked)), e, refl), at)
+    (from, at-turn setting from from (state_view page) asked (empty_logs (logs_of_asked asked)) reply (refused c) at is (subst (λ (n : ℕ). AreLogs n (λ log. log ≡ []) (empty_logs (logs_of_asked asked))) (sym (refused-most asked)) (empty-are (logs_of_asked asked)), e, refl), at)
 
 -- a request that is refused for its form, or for what is loaded
 pub response-not_built : (page : Option KeptPage) (q : Request) (reply : List ℕ) → is_none (first_of (form_causes q)) ≡ false → reply ≡ error_line NotBuilt
-    → IsResponse (request q) (empty_logs (most_logs (request q))) reply page page
+    → IsResponse (request q) (empty_logs (logs_of_asked (request q))) reply page page
 response-not_built page q reply h e = response-refused page (request q) NotBuilt reply (ap (answer_by q) (refusal-not_built (state_view page) q h)) e
 
 pub response-cause : (page : Option KeptPage) (q : Request) (c : Cause) (reply : List ℕ) → first_of (form_causes q) ≡ None → first_of (request_causes (state_view page) q) ≡ Some c → reply ≡ error_line c
-    → IsResponse (request q) (empty_logs (most_logs (request q))) reply page page
+    → IsResponse (request q) (empty_logs (logs_of_asked (request q))) reply page page
 response-cause page q c reply built h e = response-refused page (request q) c reply (ap (answer_by q) (refusal-built (state_view page) q built ∙ h)) e
 
 pub response-edit : (page page' : Option KeptPage) (e : Edit) (reply : List ℕ) → first_of (form_causes (edit e)) ≡ None → first_of (edit_causes (state_view page) e) ≡ None
     → state_view page' ≡ state_after_edit (state_view page) e → reply ≡ edit_text (brings_tree e) (accepted_by (state_view page) e)
-    → IsResponse (request (edit e)) (empty_logs (most_logs (request (edit e)))) reply page page'
+    → IsResponse (request (edit e)) (empty_logs (logs_of_asked (request (edit e)))) reply page page'
 response-edit page page' e reply built allowed after told = λ setting from at. (
   record { state = state_view page'; last = [] },
   at-turn setting from (record { state = state_view page'; last = [] }) (state_view page) (request (edit e)) ([] ∷ []) reply (accepted (edit e)) at
@@ -154,7 +154,7 @@ one-fails b c h = rw h refl
 
 -- a dump, by whether a box may be another than that of a plain block
 response-dump : (page : KeptPage) (reply : List ℕ) (b : Bool) → is_styled_page (page_view page) ≡ b → IsDumpBy b (page_view page) reply
-    → IsResponse (request (query Dump)) (empty_logs (most_logs (request (query Dump)))) reply (Some page) (Some page)
+    → IsResponse (request (query Dump)) (empty_logs (logs_of_asked (request (query Dump)))) reply (Some page) (Some page)
 response-dump page reply true is h = response-cause (Some page) (query Dump) NotBuilt reply refl (one-holds _ NotBuilt is) h
 response-dump page reply false is h = λ setting from at. (
   from,
@@ -165,7 +165,7 @@ response-dump page reply false is h = λ setting from at. (
 )
 
 response-rules : (page : KeptPage) (reply : List ℕ) → reply ≡ rules_text ((page_view page).sheets) ++ ok_line
-    → IsResponse (request (query Rules)) (empty_logs (most_logs (request (query Rules)))) reply (Some page) (Some page)
+    → IsResponse (request (query Rules)) (empty_logs (logs_of_asked (request (query Rules)))) reply (Some page) (Some page)
 response-rules page reply told = λ setting from at. (
   from,
   at-turn setting from from (Some (page_view page)) (request (query Rules)) [] reply (accepted (query Rules)) at
@@ -176,7 +176,7 @@ response-rules page reply told = λ setting from at. (
 
 -- a match, by the selector list that its text is, if it is one
 response-match : (page : KeptPage) (selector : Text) (reply : List ℕ) (list : Option SelectorList) → selector_list_of_text selector ≡ list → IsMatchBy list (page_view page) reply
-    → IsResponse (request (query (Match selector))) (empty_logs (most_logs (request (query (Match selector))))) reply (Some page) (Some page)
+    → IsResponse (request (query (Match selector))) (empty_logs (logs_of_asked (request (query (Match selector))))) reply (Some page) (Some page)
 response-match page selector reply None is h = response-cause (Some page) (query (Match selector)) BadSelector reply refl (one-holds _ BadSelector (ap is_none is)) h
 response-match page selector reply (Some list) is h = λ setting from at. (
   from,
@@ -194,20 +194,20 @@ response-match page selector reply (Some list) is h = λ setting from at. (
 pub OnOk-edit : {T E : Type 0} (r : Result T E) (page page' : Option KeptPage) (e : Edit) (b : Bool) (a : Accepted) (old new : List ℕ)
     → OnOk r (new ≡ old ++ edit_text b a) → old ≡ [] → b ≡ brings_tree e → a ≡ accepted_by (state_view page) e
     → first_of (form_causes (edit e)) ≡ None → first_of (edit_causes (state_view page) e) ≡ None → state_view page' ≡ state_after_edit (state_view page) e
-    → OnOk r (IsResponse (request (edit e)) (empty_logs (most_logs (request (edit e)))) new page page')
+    → OnOk r (IsResponse (request (edit e)) (empty_logs (logs_of_asked (request (edit e)))) new page page')
 OnOk-edit (Ok x) page page' e b a old new line empty brings is built allowed after =
     response-edit page page' e new built allowed after (line ∙ rw (empty, brings, is) refl)
 OnOk-edit (Err x) page page' e b a old new line empty brings is built allowed after = tt
 
 pub OnOk-refused : {T E : Type 0} (r : Result T E) (page : Option KeptPage) (q : Request) (c : Cause) (old new : List ℕ)
     → OnOk r (new ≡ old ++ error_line c) → old ≡ [] → first_of (form_causes q) ≡ None → first_of (request_causes (state_view page) q) ≡ Some c
-    → OnOk r (IsResponse (request q) (empty_logs (most_logs (request q))) new page page)
+    → OnOk r (IsResponse (request q) (empty_logs (logs_of_asked (request q))) new page page)
 OnOk-refused (Ok x) page q c old new line empty built h = response-cause page q c new built h (line ∙ ap (λ (front : List ℕ). front ++ error_line c) empty)
 OnOk-refused (Err x) page q c old new line empty built h = tt
 
 pub OnOk-not_built : {T E : Type 0} (r : Result T E) (page : Option KeptPage) (q : Request) (old new : List ℕ)
     → OnOk r (new ≡ old ++ error_line NotBuilt) → old ≡ [] → is_none (first_of (form_causes q)) ≡ false
-    → OnOk r (IsResponse (request q) (empty_logs (most_logs (request q))) new page page)
+    → OnOk r (IsResponse (request q) (empty_logs (logs_of_asked (request q))) new page page)
 OnOk-not_built (Ok x) page q old new line empty h = response-not_built page q new h (line ∙ ap (λ (front : List ℕ). front ++ error_line NotBuilt) empty)
 OnOk-not_built (Err x) page q old new line empty h = tt
 
@@ -216,13 +216,13 @@ OnOk-broken (Ok x) page c old new line empty = response-refused page (broken c) 
 OnOk-broken (Err x) page c old new line empty = tt
 
 pub OnOk-dumped : {T E : Type 0} (r : Result T E) (state : Option KeptPage) (page : KeptPage) (new : List ℕ) → state ≡ Some page
-    → OnOk r (IsDumpReply (page_view page) new) → OnOk r (IsResponse (request (query Dump)) (empty_logs (most_logs (request (query Dump)))) new state state)
+    → OnOk r (IsDumpReply (page_view page) new) → OnOk r (IsResponse (request (query Dump)) (empty_logs (logs_of_asked (request (query Dump)))) new state state)
 OnOk-dumped (Ok x) state page new is dump = subst (λ (s : Option KeptPage). IsResponse (request (query Dump)) [] new s s) (sym is) (response-dump page new _ refl dump)
 OnOk-dumped (Err x) state page new is dump = tt
 
 pub OnOk-rules : {T E : Type 0} (r : Result T E) (state : Option KeptPage) (page : KeptPage) (old new : List ℕ) → state ≡ Some page
     → OnOk r (new ≡ old ++ (rules_text ((page_view page).sheets) ++ ok_line)) → old ≡ []
-    → OnOk r (IsResponse (request (query Rules)) (empty_logs (most_logs (request (query Rules)))) new state state)
+    → OnOk r (IsResponse (request (query Rules)) (empty_logs (logs_of_asked (request (query Rules)))) new state state)
 OnOk-rules (Ok x) state page old new is told empty =
     subst (λ (s : Option KeptPage). IsResponse (request (query Rules)) [] new s s) (sym is)
     (response-rules page new (told ∙ ap (λ (front : List ℕ). front ++ (rules_text ((page_view page).sheets) ++ ok_line)) empty))
@@ -242,7 +242,7 @@ OnOk-built_dump (Err x) page b new is fails dump = tt
 
 pub OnOk-matched : {T E : Type 0} (r : Result T E) (state : Option KeptPage) (page : KeptPage) (selector : Text) (new : List ℕ) → state ≡ Some page
     → OnOk r (IsMatchReply selector (page_view page) new)
-    → OnOk r (IsResponse (request (query (Match selector))) (empty_logs (most_logs (request (query (Match selector))))) new state state)
+    → OnOk r (IsResponse (request (query (Match selector))) (empty_logs (logs_of_asked (request (query (Match selector))))) new state state)
 OnOk-matched (Ok x) state page selector new is h =
     subst (λ (s : Option KeptPage). IsResponse (request (query (Match selector))) [] new s s) (sym is) (response-match page selector new _ refl h)
 OnOk-matched (Err x) state page selector new is h = tt

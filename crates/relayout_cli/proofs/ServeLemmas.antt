@@ -7,7 +7,7 @@ use Rattle.stream_model.specs.Ledger.{Event, Log, pairs, events, mark}
 use Rattle.stream_model.specs.declared.limits.TheConstants.{MAX_LINE, MAX_TAKEN}
 use Rattle.page_model.specs.declared.cause.Cause.TheVariants.{LineTooLong}
 use Rattle.request_model.specs.Requests.{Asked, broken, asked_of_line}
-use Rattle.request_model.specs.States.{most_logs}
+use Rattle.request_model.specs.States.{logs_of_asked}
 use Rattle.layout_model.specs.Setting.{Setting}
 use Rattle.reply_model.specs.Replies.{Course, start, AreReplies, IsTurn}
 use Rattle.port_core.specs.Reader.{Reader, ahead, Gives, CountsFaults, IsFirstLine, EndsLine, HasNotFailed, new_reader}
@@ -311,12 +311,12 @@ Fronts-fresh (Some x) = ([], refl)
 
 -- what a line asks for that is the first of those ahead
 pub first-asks : (mid left' : Option (List ℕ)) (stopped' : Option Line) (asked : Asked) (rest : List ℕ) → FromTo mid left' (λ all r. (line : List ℕ) × IsFirstLine line stopped' all r × (asked_of_line line ≡ asked))
-    → mid ≡ Some rest → most_of_first (lines rest) ≡ most_logs asked
+    → mid ≡ Some rest → most_of_first (lines rest) ≡ logs_of_asked asked
 first-asks None left' stopped' asked rest f e = absurd (cc)
 first-asks (Some x) None stopped' asked rest f e = absurd f
 first-asks (Some x) (Some y) stopped' asked rest f e =
     let same : x ≡ rest = cc in
-    subst (λ (z : List ℕ). most_of_first (lines z) ≡ most_logs asked) same (ap most_of_first f.1.first ∙ ap most_logs f.2)
+    subst (λ (z : List ℕ). most_of_first (lines z) ≡ logs_of_asked asked) same (ap most_of_first f.1.first ∙ ap logs_of_asked f.2)
 
 -- whole replies were written
 begins-replies : (setting : Setting) (status : Status) (b n n' : Outside) (all mid rest front : List ℕ) (page : Option Page) (stopped : Option Line) (begun : List Log)

@@ -6,7 +6,7 @@ use Rattle.stream_model.specs.Ledger.{Event, Log, events}
 use Rattle.stream_model.specs.Lists.{AreDistinct}
 use Rattle.stream_model.specs.declared.limits.TheConstants.{MAX_TAKEN}
 use Rattle.request_model.specs.Requests.{asked_of_line}
-use Rattle.request_model.specs.States.{most_logs}
+use Rattle.request_model.specs.States.{logs_of_asked}
 use Rattle.layout_model.specs.Setting.{Setting, default_advances}
 use Rattle.reply_model.specs.Replies.{Replies}
 use Rattle.relayout_cli.specs.declared.status.Status.{Status}
@@ -86,7 +86,7 @@ IsWritten setting InputSpent first text bytes = bytes ≡ text
 -- the most logs that the first of these lines begins
 abbrev pub most_of_first : List (List ℕ) → ℕ
 most_of_first [] = 0
-most_of_first (line ∷ others) = most_logs (asked_of_line line)
+most_of_first (line ∷ others) = logs_of_asked (asked_of_line line)
 
 -- the logs that the first of these lines has begun, where memory ran out at it: the last of them may be cut short
 abbrev pub HasBegun : List (List ℕ) → List Log → Type 0

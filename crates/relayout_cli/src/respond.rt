@@ -2,7 +2,7 @@
 ghost use Rattle.std.specs.Prelude.{◌≡◌, [], None, OnOk, OnErr, string_bytes};
 ghost use Rattle.page_model.specs.Refusals.{first_of};
 ghost use Rattle.request_model.specs.Requests.{edit as an_edit, request as a_request, query as a_query};
-ghost use Rattle.request_model.specs.States.{form_causes, most_logs, brings_tree};
+ghost use Rattle.request_model.specs.States.{form_causes, logs_of_asked, brings_tree};
 ghost use Rattle.relayout_requests.specs.Views.{asked_view, edit_view, request_view};
 ghost use Rattle.relayout_cli.specs.Pages.{page_view};
 ghost use Rattle.relayout_cli.specs.inner.Dumps.{IsDumpReply};
@@ -32,7 +32,7 @@ pub fn respond(
 ) -> Result<(), NoMemory>
     requires empty { string_bytes reply.old ≡ [] }
     ensures response { OnOk result
-        (IsResponse (asked_view asked) (empty_logs (most_logs (asked_view asked)))
+        (IsResponse (asked_view asked) (empty_logs (logs_of_asked (asked_view asked)))
         (string_bytes reply.new) state.old state.new) }
     ensures kept { OnErr result (state.new ≡ state.old) }
 {
@@ -58,7 +58,7 @@ fn respond_built(
     requires empty { string_bytes reply.old ≡ [] }
     requires built { first_of (form_causes (request_view request)) ≡ None }
     ensures response { OnOk result (IsResponse (a_request (request_view request))
-        (empty_logs (most_logs (a_request (request_view request)))) (string_bytes reply.new)
+        (empty_logs (logs_of_asked (a_request (request_view request)))) (string_bytes reply.new)
         state.old state.new) }
     ensures kept { OnErr result (state.new ≡ state.old) }
 {
@@ -79,7 +79,7 @@ fn respond_edit(
     requires empty { string_bytes reply.old ≡ [] }
     requires built { first_of (form_causes (an_edit (edit_view edit))) ≡ None }
     ensures response { OnOk result (IsResponse (a_request (an_edit (edit_view edit)))
-        (empty_logs (most_logs (a_request (an_edit (edit_view edit))))) (string_bytes reply.new)
+        (empty_logs (logs_of_asked (a_request (an_edit (edit_view edit))))) (string_bytes reply.new)
         state.old state.new) }
     ensures kept { OnErr result (state.new ≡ state.old) }
 {
@@ -110,7 +110,7 @@ fn respond_query(
 ) -> Result<(), NoMemory>
     requires empty { string_bytes reply.old ≡ [] }
     ensures response { OnOk result (IsResponse (a_request (a_query query))
-        (empty_logs (most_logs (a_request (a_query query)))) (string_bytes reply.new)
+        (empty_logs (logs_of_asked (a_request (a_query query)))) (string_bytes reply.new)
         state.now state.now) }
 {
     match state {

@@ -1,7 +1,7 @@
 //! Serving scripts.
 ghost use Rattle.std.specs.Prelude.{◌≡◌, ◌++◌};
 ghost use Rattle.stream_model.specs.Ledger.{events};
-ghost use Rattle.request_model.specs.States.{most_logs};
+ghost use Rattle.request_model.specs.States.{logs_of_asked};
 ghost use Rattle.port_core.specs.Reader.{HasNotFailed};
 ghost use Rattle.relayout_requests.specs.Views.{asked_view};
 ghost use Rattle.relayout_cli.specs.Runs.{setting_of, Serves};
@@ -122,7 +122,7 @@ fn answer<O: Sink, L: Drop>(
 
 /// Begins a new log where a line asks for an edit.
 fn begin_log<L: Drop>(asked: &Asked, steps: &mut Steps<L>)
-    ensures { steps.new ≡ steps.old ++ events (empty_logs (most_logs (asked_view asked.now))) }
+    ensures { steps.new ≡ steps.old ++ events (empty_logs (logs_of_asked (asked_view asked.now))) }
 {
     if let Asked::Request(Request::Edit(_)) = asked {
         steps.mark();

@@ -1,7 +1,7 @@
 //! The grammar of requests.
 ghost use Rattle.std.specs.Prelude.{◌≡◌, Some, IfOk};
 ghost use Rattle.serde_json.specs.View.{view};
-ghost use Rattle.request_model.specs.Requests.{asked_of, is_name_not_built, request_named, load_of, insert_of, remove_of, sheet_of, dump_of, rules_of, match_of};
+ghost use Rattle.request_model.specs.Requests.{asked_of, is_name_not_built, request_named, load_of, insert_of, remove_of, sheet_of, dump_of, rules_of, match_of, style_of};
 ghost use Rattle.relayout_requests.specs.Views.{asked_view, request_view, edit_view};
 ghost use Rattle.relayout_requests.specs.Reads.{Reads};
 
@@ -41,7 +41,7 @@ fn is_name_not_built(name: &str) -> bool
 {
     matches!(
         name,
-        "style" | "resize" | "move" | "set-attr" | "drop-attr" | "set-text" | "counts"
+        "resize" | "move" | "set-attr" | "drop-attr" | "set-text" | "counts"
     )
 }
 
@@ -58,6 +58,7 @@ fn read_named(alloc: Global, name: &str, value: &Value) -> Result<Request, Unrea
         "dump" => Ok(Request::Query(read_dump(value)?)),
         "rules" => Ok(Request::Query(read_rules(value)?)),
         "match" => Ok(Request::Query(read_match(alloc, value)?)),
+        "style" => Ok(Request::Query(read_style(value)?)),
         _ => Err(Unread::BadRequest),
     }
 }
@@ -153,4 +154,15 @@ fn read_match(alloc: Global, value: &Value) -> Result<Query, Unread>
         return Err(Unread::BadRequest);
     }
     Ok(Query::Match(Text::new(alloc, selector)?))
+}
+
+#[tactic(auto, unfolding(request_model::specs::Requests::style_of))]
+fn read_style(value: &Value) -> Result<Query, Unread>
+    ensures { Reads (λ q. q) result (style_of (view value.now)) }
+{
+    let id = number_at(value, "id")?;
+    if count_members(value) != 2 {
+        return Err(Unread::BadRequest);
+    }
+    Ok(Query::Style(id))
 }

@@ -3,7 +3,7 @@ use Rattle.std.specs.Prelude.{◌≡◌, ◌≤◌, ℕ, zero, suc, length, List
 use Rattle.stream_model.specs.Streams.{SinkState, CountsFault, Appends, AppendsPart}
 use Rattle.stream_model.specs.Ledger.{Event, Log, events}
 use Rattle.request_model.specs.Requests.{Asked}
-use Rattle.request_model.specs.States.{most_logs}
+use Rattle.request_model.specs.States.{logs_of_asked}
 use Rattle.layout_model.specs.Setting.{Setting}
 use Rattle.reply_model.specs.Replies.{Course, IsTurn}
 use Rattle.relayout_cli.specs.Pages.{IsAt}
@@ -39,7 +39,7 @@ pub record Responds (asked : Asked) (page page' : Option Page) (old new : Outcom
 -- the logs that a line has begun at which memory ran out
 pub record Begins (asked : Asked) (old new : Outcome) : Type 0 where
   pub begun : List Log
-  pub few : length begun ≤ most_logs asked
+  pub few : length begun ≤ logs_of_asked asked
   pub once : AllOnce begun
   pub logged : new.ledger ≡ old.ledger ++ events begun
 
