@@ -1,7 +1,7 @@
 -- How what a line asks for is answered.
-use Rattle.std.proofs.Common.{◌≡◌, ◌∙◌, sym, ap, subst, refl, ℕ, zero, suc, List, [], ◌∷◌, ◌++◌, Bool, true, false, inl, inr, Option, Some, None, Result, Ok, Err, OnOk, is_none}
+use Rattle.std.proofs.Common.{◌≡◌, ◌∙◌, sym, ap, subst, refl, ℕ, zero, suc, List, [], ◌∷◌, ◌++◌, Bool, true, false, inl, inr, Option, Some, None, Result, Ok, Err, OnOk, OnErr, append-nil, is_none}
 use Rattle.std.proofs.lemmas.Bool.{false≢true}
-use Rattle.stream_model.specs.Ledger.{Log}
+use Rattle.stream_model.specs.Ledger.{Event, Log}
 use Rattle.page_model.specs.Pages.{State}
 use Rattle.page_model.specs.Trees.{Tree, elem, characters, is_elem}
 use Rattle.page_model.specs.Refusals.{Causes, first_of, cause_of, IsFirstCause, IsRefusedBy}
@@ -9,10 +9,10 @@ use Rattle.page_model.specs.declared.cause.Cause.{Cause}
 use Rattle.page_model.specs.declared.cause.Cause.TheVariants.{BadSelector, NotBuilt, NotLoaded}
 use Rattle.page_model.specs.declared.refusal.Refusal.{Refusal}
 use Rattle.request_model.specs.declared.query.Query.{Query}
-use Rattle.request_model.specs.declared.query.Query.TheVariants.{Dump, Match, Rules}
+use Rattle.request_model.specs.declared.query.Query.TheVariants.{Dump, Match, Rules, Style}
 use Rattle.request_model.specs.declared.accepted.Accepted.{Accepted}
 use Rattle.request_model.specs.Requests.{Edit, load, insert, remove, sheet, Request, edit, query, Asked, nothing, broken, request}
-use Rattle.request_model.specs.States.{Answer, silent, refused, accepted, answer_to, answer_by, refusal_of, form_causes, request_causes, edit_causes, state_after_edit, accepted_by, brings_tree, logs_of_asked, logs_of_asked, has_text, is_styled_page}
+use Rattle.request_model.specs.States.{Answer, silent, refused, accepted, answer_to, answer_by, refusal_of, form_causes, style_causes, request_causes, edit_causes, state_after_edit, accepted_by, brings_tree, logs_of_asked, logs_of_asked, has_text, is_styled_page}
 use Rattle.layout_model.specs.Setting.{Setting}
 use Rattle.reply_model.specs.Spelling.{error_line, ok_line}
 use Rattle.page_model.specs.Pages.{Page}
@@ -21,14 +21,16 @@ use Rattle.selectors_model.specs.SelectorTexts.{selector_list_of_text}
 use Rattle.selectors_model.specs.Selectors.{SelectorList}
 use Rattle.reply_model.specs.MatchText.{match_lines, match_text_by}
 use Rattle.reply_model.specs.RulesText.{rules_text}
-use Rattle.reply_model.specs.Replies.{Course, IsTurn, IsAnswered, IsQueryReply, AreLogs, edit_text}
+use Rattle.reply_model.specs.Replies.{Course, IsTurn, IsAnswered, IsQueryReply, IsStyleLog, AreLogs, edit_text}
 use Rattle.dom_arena.specs.Faults.{AnswersBy, refusal_of_fault, cause_in}
 use Rattle.dom_arena.specs.declared.fault.DocFault.{DocFault}
 use Rattle.relayout_cli.specs.Pages.{page_view, state_view}
 use Rattle.relayout_cli.specs.declared.page.Page.{Page as KeptPage}
-use Rattle.relayout_cli.specs.inner.Turns.{IsResponse, empty_logs}
+use Rattle.relayout_cli.specs.inner.Turns.{CarriesOut, IsResponse, SetsOut, empty_logs, logs_with}
 use Rattle.relayout_cli.specs.inner.Dumps.{IsDumpOf, IsDumpBy, IsDumpReply}
 use Rattle.relayout_cli.specs.inner.MatchReplies.{IsMatchBy, IsMatchReply}
+use Rattle.relayout_cli.specs.inner.StyleReplies.{AnswersStyle, AnswersStyleBy}
+use Rattle.page_styles.specs.Styles.{LogsStyling}
 use Rattle.relayout_cli.specs.inner.Edits.{HasRoot}
 
 -- ---- causes
@@ -104,22 +106,13 @@ pub empty-are : (n : ℕ) → AreLogs n (λ log. log ≡ []) (empty_logs n)
 empty-are zero = refl
 empty-are (suc n) = ([], refl, (empty_logs n, empty-are n, refl))
 
--- what is refused begins as many logs as what it asks for may begin
-refused-most : (asked : Asked) → logs_of_asked asked ≡ logs_of_asked asked
-refused-most nothing = refl
-refused-most (broken c) = refl
-refused-most (request (edit e)) = refl
-refused-most (request (query Dump)) = refl
-refused-most (request (query Rules)) = refl
-refused-most (request (query (Match selector))) = refl
-
 pub response-silent : (page : Option KeptPage) (reply : List ℕ) → reply ≡ [] → IsResponse nothing [] reply page page
 response-silent page reply e = λ setting from at. (from, at-turn setting from from (state_view page) nothing [] reply silent at refl (refl, e, refl), at)
 
 pub response-refused : (page : Option KeptPage) (asked : Asked) (c : Cause) (reply : List ℕ) → answer_to (state_view page) asked ≡ refused c → reply ≡ error_line c
     → IsResponse asked (empty_logs (logs_of_asked asked)) reply page page
 response-refused page asked c reply is e = λ setting from at.
-    (from, at-turn setting from from (state_view page) asked (empty_logs (logs_of_asked asked)) reply (refused c) at is (subst (λ (n : ℕ). AreLogs n (λ log. log ≡ []) (empty_logs (logs_of_asked asked))) (sym (refused-most asked)) (empty-are (logs_of_asked asked)), e, refl), at)
+    (from, at-turn setting from from (state_view page) asked (empty_logs (logs_of_asked asked)) reply (refused c) at is (empty-are (logs_of_asked asked), e, refl), at)
 
 -- a request that is refused for its form, or for what is loaded
 pub response-not_built : (page : Option KeptPage) (q : Request) (reply : List ℕ) → is_none (first_of (form_causes q)) ≡ false → reply ≡ error_line NotBuilt
@@ -158,9 +151,9 @@ response-dump : (page : KeptPage) (reply : List ℕ) (b : Bool) → is_styled_pa
 response-dump page reply true is h = response-cause (Some page) (query Dump) NotBuilt reply refl (one-holds _ NotBuilt is) h
 response-dump page reply false is h = λ setting from at. (
   from,
-  at-turn setting from from (Some (page_view page)) (request (query Dump)) [] reply (accepted (query Dump)) at
+  at-turn setting from from (Some (page_view page)) (request (query Dump)) ([] ∷ []) reply (accepted (query Dump)) at
       (ap (answer_by (query Dump)) (refusal-built (Some (page_view page)) (query Dump) refl ∙ one-fails _ NotBuilt is))
-      (subst (λ (s : State). IsQueryReply s setting from Dump [] reply) (sym at) ((h setting).0, (h setting).1, refl, (h setting).2), refl),
+      (subst (λ (s : State). IsQueryReply s setting from Dump ([] ∷ []) reply) (sym at) ((h setting).0, (h setting).1, ([], refl, ([], refl, refl)), (h setting).2), refl),
   at,
 )
 
@@ -217,7 +210,7 @@ OnOk-broken (Err x) page c old new line empty = tt
 
 pub OnOk-dumped : {T E : Type 0} (r : Result T E) (state : Option KeptPage) (page : KeptPage) (new : List ℕ) → state ≡ Some page
     → OnOk r (IsDumpReply (page_view page) new) → OnOk r (IsResponse (request (query Dump)) (empty_logs (logs_of_asked (request (query Dump)))) new state state)
-OnOk-dumped (Ok x) state page new is dump = subst (λ (s : Option KeptPage). IsResponse (request (query Dump)) [] new s s) (sym is) (response-dump page new _ refl dump)
+OnOk-dumped (Ok x) state page new is dump = subst (λ (s : Option KeptPage). IsResponse (request (query Dump)) ([] ∷ []) new s s) (sym is) (response-dump page new _ refl dump)
 OnOk-dumped (Err x) state page new is dump = tt
 
 pub OnOk-rules : {T E : Type 0} (r : Result T E) (state : Option KeptPage) (page : KeptPage) (old new : List ℕ) → state ≡ Some page
@@ -267,7 +260,76 @@ pub query-not_loaded : (state : Option KeptPage) (q : Query) → state ≡ None 
 query-not_loaded state Dump is = rw is refl
 query-not_loaded state Rules is = rw is refl
 query-not_loaded state (Match selector) is = rw is refl
+query-not_loaded state (Style i) is = rw is refl
 
 -- a refusal with a cause is by the first that holds
 pub refused-cause : (causes : Causes) (r : Refusal) (c : Cause) → IsRefusedBy causes r → cause_of r ≡ Some c → first_of causes ≡ Some c
 refused-cause causes r c h is = subst (λ (o : Option Cause). IsFirstCause causes o) is h
+
+-- ---- work
+
+logs-none : (n : ℕ) → logs_with [] n ≡ empty_logs n
+logs-none zero = refl
+logs-none (suc n) = refl
+
+pub carries-none : (asked : Asked) (reply : List ℕ) (page page' : Option KeptPage) (es : List Event)
+    → IsResponse asked (empty_logs (logs_of_asked asked)) reply page page' → CarriesOut asked reply page page' es es
+carries-none asked reply page page' es h = record {
+  work = [];
+  response = subst (λ own. IsResponse asked own reply page page') (sym (logs-none (logs_of_asked asked))) h;
+  works = record { once = tt; within = λ _. refl; logged = sym (append-nil es) };
+}
+
+-- without work, the ledger stays
+pub OnOk-carried : {T E : Type 0} (r : Result T E) (asked : Asked) (reply : List ℕ) (page page' : Option KeptPage) (es : List Event)
+    → OnOk r (IsResponse asked (empty_logs (logs_of_asked asked)) reply page page') → OnOk r (CarriesOut asked reply page page' es es)
+OnOk-carried (Ok x) asked reply page page' es h = carries-none asked reply page page' es h
+OnOk-carried (Err x) asked reply page page' es h = tt
+
+pub sets-none : (asked : Asked) (es : List Event) → SetsOut asked es es
+sets-none asked es = ([], record { once = tt; within = λ _. refl; logged = sym (append-nil es) })
+
+pub OnErr-none : {T E : Type 0} (r : Result T E) (asked : Asked) (es : List Event) → OnErr r (SetsOut asked es es)
+OnErr-none (Ok x) asked es = tt
+OnErr-none (Err x) asked es = sets-none asked es
+
+-- ---- styles
+
+response-style : (page : KeptPage) (i : ℕ) (reply : List ℕ) (old new : List Event) (o : Option Cause)
+    → first_of (style_causes i (page_view page)) ≡ o → AnswersStyleBy o i (page_view page) reply old new
+    → CarriesOut (request (query (Style i))) reply (Some page) (Some page) old new
+response-style page i reply old new (Some c) is h = record {
+  work = [];
+  response = response-cause (Some page) (query (Style i)) c reply refl is h.0;
+  works = record { once = tt; within = λ _. refl; logged = h.1 ∙ sym (append-nil old) };
+}
+response-style page i reply old new None is h =
+    let log : Log = h.1.0 in
+    let styling : IsStyleLog (Some (page_view page)) log = h.1.1 in
+    record {
+      work = log;
+      response = λ setting from at. (
+          from,
+          at-turn setting from from (Some (page_view page)) (request (query (Style i))) (log ∷ []) reply (accepted (query (Style i))) at
+          (ap (answer_by (query (Style i))) (refusal-built (Some (page_view page)) (query (Style i)) refl ∙ is)) (
+            subst (λ (s : State). IsQueryReply s setting from (Style i) (log ∷ []) reply) (sym at)
+            (h.0.0, h.0.1, (log, subst (λ (s : State). IsStyleLog s log) (sym at) styling, ([], refl, refl)), h.0.2),
+            refl,
+          ),
+          at,
+      );
+      works = record { once = h.1.1.0; within = λ e. absurd (cc); logged = h.1.2 };
+    }
+
+pub OnOk-styled : {T E : Type 0} (r : Result T E) (state : Option KeptPage) (page : KeptPage) (i : ℕ) (reply : List ℕ) (old new : List Event)
+    → state ≡ Some page → OnOk r (AnswersStyle i (page_view page) reply old new)
+    → OnOk r (CarriesOut (request (query (Style i))) reply state state old new)
+OnOk-styled (Ok x) state page i reply old new is h =
+    subst (λ (s : Option KeptPage). CarriesOut (request (query (Style i))) reply s s old new) (sym is)
+    (response-style page i reply old new (first_of (style_causes i (page_view page))) refl h)
+OnOk-styled (Err x) state page i reply old new is h = tt
+
+pub OnErr-styled : {T E : Type 0} (r : Result T E) (page : KeptPage) (i : ℕ) (old new : List Event)
+    → OnErr r (LogsStyling page.document.document.root old new) → OnErr r (SetsOut (request (query (Style i))) old new)
+OnErr-styled (Ok x) page i old new h = tt
+OnErr-styled (Err x) page i old new h = (h.0, record { once = h.1.0; within = λ e. absurd (cc); logged = h.2 })

@@ -1,12 +1,14 @@
 -- How a script is answered line by line.
-use Rattle.std.proofs.Common.{◌≤◌, take, length-append, inl, inr, ◌≡◌, ◌∙◌, sym, ap, refl, subst, ℕ, zero, suc, ◌<◌, ◌+◌, ◌-◌, List, [], ◌∷◌, ◌++◌, length, Option, Some, None, IfNone, IfSome, append_assoc, append-nil, arith}
+use Rattle.std.proofs.Common.{◌≤◌, ◌⊎◌, take, length-append, inl, inr, ◌≡◌, ◌∙◌, sym, ap, refl, subst, ℕ, zero, suc, ◌<◌, ◌+◌, ◌-◌, List, [], ◌∷◌, ◌++◌, length, Option, Some, None, IfNone, IfSome, append_assoc, append-nil, arith}
 use Rattle.std.proofs.lemmas.Bool.{lt-ltb}
 use Rattle.stream_model.specs.Streams.{SourceState, SinkState, FromTo, Appends, AppendsPart, CountsFault, Grew, TakesCount, NothingLeft}
 use Rattle.stream_model.specs.Lines.{newline, lines, whole_lines, IsUnbroken}
 use Rattle.stream_model.specs.Ledger.{Event, Log, pairs, events, mark}
 use Rattle.stream_model.specs.declared.limits.TheConstants.{MAX_LINE, MAX_TAKEN}
 use Rattle.page_model.specs.declared.cause.Cause.TheVariants.{LineTooLong}
-use Rattle.request_model.specs.Requests.{Asked, broken, asked_of_line}
+use Rattle.request_model.specs.Requests.{Asked, nothing, broken, request, edit, query, asked_of_line}
+use Rattle.request_model.specs.declared.query.Query.TheVariants.{Dump, Match, Rules, Style}
+use Rattle.stream_model.specs.Lists.{AreDistinct}
 use Rattle.request_model.specs.States.{logs_of_asked}
 use Rattle.layout_model.specs.Setting.{Setting}
 use Rattle.reply_model.specs.Replies.{Course, start, AreReplies, IsTurn}
@@ -22,7 +24,7 @@ use Rattle.relayout_cli.specs.declared.page.Page.{Page}
 use Rattle.relayout_cli.specs.inner.Coming.{IsAtEnd, TakesPart, AsksNext, ReadsOn}
 use Rattle.relayout_cli.specs.declared.serving.Turn.{Turn}
 use Rattle.relayout_cli.specs.declared.serving.Turn.TheVariants as turn
-use Rattle.relayout_cli.specs.inner.Turns.{empty_logs, IsResponse, Responds, Begins, Turns, Tells}
+use Rattle.relayout_cli.specs.inner.Turns.{empty_logs, logs_with, IsResponse, CarriesOut, SetsOut, Responds, BeginsLogs, Turns, Tells}
 use Rattle.relayout_cli.proofs.CutLemmas.{AreWhole, AreWhole-none, AreWhole-more, AreWhole-part}
 
 -- ---- ledgers
@@ -556,7 +558,7 @@ ends-cut setting b n n' old new page page' asked s next a turn =
 
 -- there was no memory for a reply
 pub ends-unanswered : (setting : Setting) (b n n' : Outside) (old new : Reader) (page : Option Page) (asked : Asked) → Serving setting b n old page → AsksNext asked old new n.source n'.source → ReadsOn old new n.source n'.source
-    → Begins asked (record { sink = n.sink; ledger = n.ledger }) (record { sink = n'.sink; ledger = n'.ledger }) × (n'.sink ≡ n.sink) → Serves setting NoMemory (run_of b n')
+    → BeginsLogs asked n.ledger n'.ledger × (n'.sink ≡ n.sink) → Serves setting NoMemory (run_of b n')
 ends-unanswered setting b n n' old new page asked s next a turn =
     ends setting NoMemory (run_of b n') (λ e. absurd (cc)) (λ e. absurd (cc)) tt
     (Wrote-told setting NoMemory b n n' (ahead old.pending n.source.left) page old.stopped turn.0.begun (λ first text. refl) turn.1 turn.0.logged
@@ -573,6 +575,57 @@ pub turns-told : (t : Turn) (asked : Asked) (page page' : Option Page) (sink sin
 turns-told turn.Answered asked page page' sink sink' es es' reply own told response once log = (record { own = own; reply = reply; response = response; once = once; logged = log }, told.0, told.1)
 turns-told turn.Failed asked page page' sink sink' es es' reply own told response once log = (record { own = own; reply = reply; response = response; once = once; logged = log }, told.0, told.1)
 turns-told turn.NoMemory asked page page' sink sink' es es' reply own told response once log = absurd told
+
+-- a line begins one log or none
+one-or-none : (asked : Asked) → (logs_of_asked asked ≡ 0) ⊎ (logs_of_asked asked ≡ 1)
+one-or-none nothing = inl refl
+one-or-none (broken c) = inl refl
+one-or-none (request (edit e)) = inr refl
+one-or-none (request (query Dump)) = inr refl
+one-or-none (request (query Rules)) = inl refl
+one-or-none (request (query (Match selector))) = inl refl
+one-or-none (request (query (Style i))) = inr refl
+
+-- the work after the marks
+logged-after : (work : Log) (n : ℕ) → (n ≡ 0) ⊎ (n ≡ 1) → (n ≡ 0 → work ≡ []) → (es es1 es2 : List Event)
+    → es1 ≡ es ++ events (empty_logs n) → es2 ≡ es1 ++ pairs work → es2 ≡ es ++ events (logs_with work n)
+logged-after work zero one none es es1 es2 e f =
+    f ∙ (ap (λ w. es1 ++ pairs w) (none refl) ∙ (append-nil es1 ∙ e))
+logged-after work (suc zero) one none es es1 es2 e f =
+    f ∙ (ap (λ x. x ++ pairs work) e
+    ∙ (append_assoc es (mark ∷ []) (pairs work) ∙ ap (λ x. es ++ mark ∷ x) (sym (append-nil (pairs work)))))
+logged-after work (suc (suc n)) (inl h) none es es1 es2 e f = absurd (cc)
+logged-after work (suc (suc n)) (inr h) none es es1 es2 e f = absurd (cc)
+
+once-after : (work : Log) (n : ℕ) → AreDistinct work → AllOnce (logs_with work n)
+once-after work zero d = tt
+once-after work (suc n) d = (d, AllOnce-empty n)
+
+few-empty : (n : ℕ) → length (empty_logs n) ≤ n
+few-empty zero = omega arith
+few-empty (suc n) = let rest = few-empty n in omega (arith, rest)
+
+few-after : (work : Log) (n : ℕ) → length (logs_with work n) ≤ n
+few-after work zero = omega arith
+few-after work (suc n) = let rest = few-empty n in omega (arith, rest)
+
+-- a turn whose logs were begun and which was then carried out and told
+pub turns-carried : (t : Turn) (asked : Asked) (page page' : Option Page) (sink sink' : SinkState) (es es1 es2 : List Event) (reply : List ℕ)
+    → Tells t reply sink sink' → es1 ≡ es ++ events (empty_logs (logs_of_asked asked)) → CarriesOut asked reply page page' es1 es2
+    → Turns t asked page page' (record { sink = sink; ledger = es }) (record { sink = sink'; ledger = es2 })
+turns-carried t asked page page' sink sink' es es1 es2 reply told marks c =
+    turns-told t asked page page' sink sink' es es2 reply (logs_with c.work (logs_of_asked asked)) told c.response
+    (once-after c.work (logs_of_asked asked) c.works.once)
+    (logged-after c.work (logs_of_asked asked) (one-or-none asked) c.works.within es es1 es2 marks c.works.logged)
+
+pub turns-begun : (asked : Asked) (es es1 es2 : List Event) → es1 ≡ es ++ events (empty_logs (logs_of_asked asked)) → SetsOut asked es1 es2
+    → BeginsLogs asked es es2
+turns-begun asked es es1 es2 marks s = record {
+  begun = logs_with s.0 (logs_of_asked asked);
+  few = few-after s.0 (logs_of_asked asked);
+  once = once-after s.0 (logs_of_asked asked) s.1.once;
+  logged = logged-after s.0 (logs_of_asked asked) (one-or-none asked) s.1.within es es1 es2 marks s.1.logged;
+}
 
 -- a line was read that is kept whole
 pub Fronts-whole : (a b : Option (List ℕ)) (kept : List ℕ) (stopped : Option Line) → FromTo a b (Gives Whole kept stopped) → FromTo a b (λ all rest. (front : List ℕ) × (all ≡ front ++ rest))

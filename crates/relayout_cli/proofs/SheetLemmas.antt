@@ -1,11 +1,23 @@
 -- The style sheets of a page, by their texts and by their rules.
-use Rattle.std.proofs.Common.{◌≡◌, ◌∙◌, ap, sym, refl, ℕ, zero, suc, ◌<◌, ◌==◌, List, [], ◌∷◌, ◌++◌, Bool, true, false, not, length, map, take, drop, slice_set, arith, eqb-true, inl, inr}
-use Rattle.std.proofs.lemmas.Bool.{cases_Bool}
+use Rattle.std.proofs.Common.{◌≡◌, ◌∙◌, ap, sym, subst, refl, ℕ, zero, suc, ◌<◌, ◌≤◌, ◌==◌, List, [], ◌∷◌, ◌++◌, Bool, true, false, not, length, length-map, map, take, drop, get_or, slice_set, arith, eqb-true, inl, inr, encode_utf8_all, ltb-false, nat_lt, Option, Some, None, is_some, Result, Ok, Err, OnOk, OnErr}
+use Rattle.std.proofs.lemmas.Bool.{cases_Bool, false≢true}
+use Rattle.std.proofs.lemmas.List.Elements.{All-cons, All-nil}
+use Rattle.std.specs.List.{All}
+use Rattle.cascade_core.specs.Books.{AreFew}
+use Rattle.css_model.specs.declared.token.TheConstants.{MAX_NESTING}
+use Rattle.css_model.specs.Components.{depths}
+use Rattle.css_rules.specs.Views.{condition_lists, rule_view}
+use Rattle.page_laws.proofs.Options.{or-false}
+use Rattle.page_model.specs.Refusals.{first_of}
+use Rattle.page_model.specs.Trees.{Text}
+use Rattle.reply_laws.proofs.SheetLimits.{kept-with, kept-without}
+use Rattle.rules_model.specs.declared.limits.TheConstants.{MAX_SHEETS, MAX_SHEET_BYTES, MAX_STYLE_RULES}
+use Rattle.rules_model.specs.declared.sheet_limit.SheetLimit.TheVariants.{TooLarge, TooDeep, TooManyRules}
 use Rattle.std.specs.List.{list_any, remove}
 use Rattle.std.proofs.lemmas.List.{map-append, take-map, drop-map}
 use Rattle.rules_model.specs.Rules.{StyleRule}
-use Rattle.rules_model.specs.Sheets.{style_rules_of}
-use Rattle.request_model.specs.States.{is_empty, has_style_rule, sheets_with, sheets_without}
+use Rattle.rules_model.specs.Sheets.{components_of, first_limit, style_rules_of}
+use Rattle.request_model.specs.States.{are_over_sheet_limits, is_empty, is_over_sheet_limit, sheet_causes, sheets_after, sheets_with, sheets_without}
 use Rattle.css_rules.specs.declared.sheet.Sheet.{Sheet}
 use Rattle.css_rules.specs.Views.{sheet_view}
 use Rattle.reply_model.specs.RulesText.{sheet_lines, rule_lines}
@@ -88,15 +100,66 @@ unfolding marks
 marked true = refl
 marked false = refl
 
-any-texts : (sheets : List Sheet) → list_any has_rules (text_rules sheets) ≡ list_any has_style_rule (texts_of sheets)
-any-texts [] = refl
-any-texts (s ∷ sheets) = rw (any-texts sheets) refl
+any-texts : (P : List StyleRule → Bool) (sheets : List Sheet)
+    → list_any P (text_rules sheets) ≡ list_any (λ css. P (style_rules_of css)) (texts_of sheets)
+any-texts P [] = refl
+any-texts P (s ∷ sheets) = rw (any-texts P sheets) refl
 
-pub any-parsed : (sheets : List Sheet) → AreParsed sheets → list_any has_rules (kept_rules sheets) ≡ list_any has_style_rule (texts_of sheets)
-any-parsed sheets parsed =
-    sym (marked (list_any has_rules (kept_rules sheets)))
-    ∙ (ap (λ (l : List ℕ). not (is_empty l)) (parsed (λ all. marks (list_any has_rules all)))
-    ∙ (marked (list_any has_rules (text_rules sheets)) ∙ any-texts sheets))
+-- what holds of the rules that are kept of a sheet holds of those of a text
+pub any-parsed : (P : List StyleRule → Bool) (sheets : List Sheet) → AreParsed sheets
+    → list_any P (kept_rules sheets) ≡ list_any (λ css. P (style_rules_of css)) (texts_of sheets)
+any-parsed P sheets parsed =
+    sym (marked (list_any P (kept_rules sheets)))
+    ∙ (ap (λ (l : List ℕ). not (is_empty l)) (parsed (λ all. marks (list_any P all)))
+    ∙ (marked (list_any P (text_rules sheets)) ∙ any-texts P sheets))
+
+-- ---- limits
+
+-- a text within the limits has few rules
+few-by : (large deep many : Bool)
+    → is_some (first_limit ((large, TooLarge) ∷ (deep, TooDeep) ∷ (many, TooManyRules) ∷ [])) ≡ false → many ≡ false
+few-by true deep many h = absurd (false≢true (sym h))
+few-by false true many h = absurd (false≢true (sym h))
+few-by false false true h = absurd (false≢true (sym h))
+few-by false false false h = refl
+
+few-in-text : (css : Text) → is_over_sheet_limit css ≡ false → length (style_rules_of css) ≤ MAX_STYLE_RULES
+few-in-text css h =
+    ltb-false MAX_STYLE_RULES (length (style_rules_of css))
+    (few-by (nat_lt MAX_SHEET_BYTES (length (encode_utf8_all css))) (nat_lt MAX_NESTING (depths (components_of css)))
+    (nat_lt MAX_STYLE_RULES (length (style_rules_of css))) h)
+
+few-rules : (sheets : List Sheet) → map (length {A = StyleRule}) (kept_rules sheets) ≡ map (length {A = StyleRule}) (text_rules sheets)
+    → list_any is_over_sheet_limit (texts_of sheets) ≡ false → All (λ (s : Sheet). length s.rules ≤ MAX_STYLE_RULES) sheets
+few-rules [] same none = All-nil
+few-rules (s ∷ sheets) same none =
+    let parts = or-false (is_over_sheet_limit s.text) (list_any is_over_sheet_limit (texts_of sheets)) none in
+    let count : length s.rules ≡ length (style_rules_of s.text) =
+    sym (length-map s.rules (rule_view (condition_lists s.conditions))) ∙ ap (λ (ns : List ℕ). get_or ns 0 0) same in
+    All-cons s sheets (subst (λ n. n ≤ MAX_STYLE_RULES) (sym count) (few-in-text s.text parts.0))
+    (few-rules sheets (ap (drop 1) same) parts.1)
+
+pub few-parsed : (sheets : List Sheet) → AreParsed sheets → are_over_sheet_limits (texts_of sheets) ≡ false → AreFew sheets
+few-parsed sheets parsed within =
+    let parts = or-false (nat_lt MAX_SHEETS (length (texts_of sheets))) (list_any is_over_sheet_limit (texts_of sheets)) within in
+    record {
+      count = subst (λ n. n ≤ MAX_SHEETS) (length-map sheets (λ (s : Sheet). s.text)) (ltb-false MAX_SHEETS (length (texts_of sheets)) parts.0);
+      rules = few-rules sheets (parsed (map (length {A = StyleRule}))) parts.1;
+    }
+
+-- an edit of the sheets that is allowed keeps them within the limits
+after-within : (at : ℕ) (css : Option Text) (sheets : List Text) → are_over_sheet_limits sheets ≡ false
+    → first_of (sheet_causes at css sheets) ≡ None → are_over_sheet_limits (sheets_after at css sheets) ≡ false
+after-within at None sheets h none = kept-without at sheets h
+after-within at (Some css) sheets h none = kept-with at css sheets h none
+
+pub within-after : {T E : Type 0} (r : Result T E) (at : ℕ) (css : Option Text) (old new : List Sheet)
+    → OnOk r (texts_of new ≡ sheets_after at css (texts_of old))
+    → OnOk r (first_of (sheet_causes at css (texts_of old)) ≡ None) → OnErr r (new ≡ old)
+    → are_over_sheet_limits (texts_of old) ≡ false → are_over_sheet_limits (texts_of new) ≡ false
+within-after (Ok x) at css old new after allowed kept h =
+    ap are_over_sheet_limits after ∙ after-within at css (texts_of old) h allowed
+within-after (Err e) at css old new after allowed kept h = ap (λ (sheets : List Sheet). are_over_sheet_limits (texts_of sheets)) kept ∙ h
 
 -- ---- lines
 

@@ -10,3 +10,4 @@ pub mod Edits
 pub mod Coming
 pub mod Turns
 pub mod Examples
+pub mod StyleReplies

@@ -12,11 +12,12 @@ ghost use Rattle.relayout_cli.specs.inner.Frames.{frame_view};
 
 use crate::boxes::{Frame, units_of};
 use crate::page::Page;
-use crate::replies::{push_field, push_ok};
+use crate::replies::push_ok;
 use dom_arena::{Children, Doc};
 use itoa::Buffer;
 use page_model::MAX_DEPTH;
 use port_core::{NoMemory, NodeId};
+use reply_texts::push_field;
 use units64::Units;
 
 /// Appends the dump of a page.

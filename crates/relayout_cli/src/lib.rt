@@ -17,6 +17,7 @@ mod serving;
 mod sheets;
 mod status;
 mod styled;
+mod styling;
 
 pub use examples::{examples_of_causes, examples_of_logs, examples_of_what_is_written};
 pub use running::run;

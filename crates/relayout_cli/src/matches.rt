@@ -10,11 +10,12 @@ ghost use Rattle.reply_model.specs.Spelling.{field, ok_line};
 ghost use Rattle.relayout_cli.specs.inner.Elements.{IsElement};
 
 use crate::elements::elements;
-use crate::replies::{push_field, push_ok, push_text};
+use crate::replies::push_ok;
 use css_rules::{TokenFault, components_of};
 use dom_arena::Doc;
 use itoa::Buffer;
 use port_core::{NoMemory, NodeId, Text};
+use reply_texts::{push_field, push_text};
 use selectors::{Selector, SelectorList, matches, read_list};
 use std::alloc::Global;
 

@@ -1,7 +1,8 @@
 //! What is loaded.
-ghost use Rattle.std.specs.Prelude.{◌≡◌, ◌≤◌};
+ghost use Rattle.std.specs.Prelude.{◌≡◌, ◌≤◌, false};
 ghost use Rattle.page_model.specs.declared.limits.TheConstants.{MAX_SIDE};
-ghost use Rattle.relayout_cli.specs.Sheets.{AreParsed};
+ghost use Rattle.request_model.specs.States.{are_over_sheet_limits};
+ghost use Rattle.relayout_cli.specs.Sheets.{AreParsed, texts_of};
 
 use css_rules::Sheet;
 use dom_arena::Doc;
@@ -20,4 +21,5 @@ pub struct Page {
     ghost narrow: { viewport.width ≤ MAX_SIDE },
     ghost low: { viewport.height ≤ MAX_SIDE },
     ghost parsed: { AreParsed sheets },
+    ghost within: { are_over_sheet_limits (texts_of sheets) ≡ false },
 }

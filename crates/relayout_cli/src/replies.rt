@@ -7,31 +7,11 @@ ghost use Rattle.reply_model.specs.Replies.{edit_text};
 use itoa::Buffer;
 use page_model::Cause;
 use port_core::NoMemory;
+use reply_texts::{push_field, push_text};
 use request_model::Accepted;
 
 /// The most bytes of the reply to an edit.
 pub const MAX_EDIT_REPLY: usize = 32;
-
-/// Appends `text`. It fails only where the room is too small.
-pub fn push_text(reply: &mut String, text: &str) -> Result<(), NoMemory>
-    ensures text { OnOk result (string_bytes reply.new ≡ string_bytes reply.old ++ text.now) }
-    ensures room { OnErr result (string_capacity reply.old < string_len reply.old + length text.now) }
-    ensures len { OnOk result (string_len reply.new ≡ string_len reply.old + length text.now) }
-    ensures capacity { string_capacity reply.old ≤ string_capacity reply.new }
-{
-    reply.push_str(text)
-}
-
-/// Appends a field: a space, and then the text.
-pub fn push_field(reply: &mut String, text: &str) -> Result<(), NoMemory>
-    ensures text { OnOk result (string_bytes reply.new ≡ string_bytes reply.old ++ field text.now) }
-    ensures room { OnErr result (string_capacity reply.old < string_len reply.old + 1 + length text.now) }
-    ensures len { OnOk result (string_len reply.new ≡ string_len reply.old + 1 + length text.now) }
-    ensures capacity { string_capacity reply.old ≤ string_capacity reply.new }
-{
-    reply.push_str(" ")?;
-    reply.push_str(text)
-}
 
 /// Appends the line of a request that was carried out.
 #[tactic(auto, unfolding(reply_model::specs::Spelling::ok_line))]

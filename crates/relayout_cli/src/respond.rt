@@ -7,7 +7,7 @@ ghost use Rattle.relayout_requests.specs.Views.{asked_view, edit_view, request_v
 ghost use Rattle.relayout_cli.specs.Pages.{page_view};
 ghost use Rattle.relayout_cli.specs.inner.Dumps.{IsDumpReply};
 ghost use Rattle.relayout_cli.specs.inner.MatchReplies.{IsMatchReply};
-ghost use Rattle.relayout_cli.specs.inner.Turns.{IsResponse, empty_logs};
+ghost use Rattle.relayout_cli.specs.inner.Turns.{CarriesOut, IsResponse, SetsOut, empty_logs};
 
 use crate::apply::apply;
 use crate::dump::push_dump;
@@ -17,23 +17,25 @@ use crate::plain::is_built;
 use crate::replies::{MAX_EDIT_REPLY, push_accepted, push_error};
 use crate::rules::push_rules;
 use crate::styled::is_styled_page;
+use crate::styling::respond_style;
 use page_model::Cause;
-use port_core::{NoMemory, Text};
+use port_core::{NoMemory, Steps, Text};
 use relayout_requests::{Asked, Edit, Request};
 use request_model::Query;
 use std::alloc::Global;
 
 /// Carries out what a line asks for, and appends its reply. Where memory runs out, what is loaded stays as it was.
-pub fn respond(
+pub fn respond<L: Drop>(
     alloc: Global,
     state: &mut Option<Page>,
     asked: Asked,
     reply: &mut String,
+    steps: &mut Steps<L>,
 ) -> Result<(), NoMemory>
     requires empty { string_bytes reply.old ≡ [] }
-    ensures response { OnOk result
-        (IsResponse (asked_view asked) (empty_logs (logs_of_asked (asked_view asked)))
-        (string_bytes reply.new) state.old state.new) }
+    ensures response { OnOk result (CarriesOut (asked_view asked) (string_bytes reply.new)
+        state.old state.new steps.old steps.new) }
+    ensures begun { OnErr result (SetsOut (asked_view asked) steps.old steps.new) }
     ensures kept { OnErr result (state.new ≡ state.old) }
 {
     match asked {
@@ -43,28 +45,29 @@ pub fn respond(
             if !is_built(&request) {
                 return push_error(reply, Cause::NotBuilt);
             }
-            respond_built(alloc, state, request, reply)
+            respond_built(alloc, state, request, reply, steps)
         }
     }
 }
 
 /// Carries out a request whose form is built, or refuses it.
-fn respond_built(
+fn respond_built<L: Drop>(
     alloc: Global,
     state: &mut Option<Page>,
     request: Request,
     reply: &mut String,
+    steps: &mut Steps<L>,
 ) -> Result<(), NoMemory>
     requires empty { string_bytes reply.old ≡ [] }
     requires built { first_of (form_causes (request_view request)) ≡ None }
-    ensures response { OnOk result (IsResponse (a_request (request_view request))
-        (empty_logs (logs_of_asked (a_request (request_view request)))) (string_bytes reply.new)
-        state.old state.new) }
+    ensures response { OnOk result (CarriesOut (a_request (request_view request))
+        (string_bytes reply.new) state.old state.new steps.old steps.new) }
+    ensures begun { OnErr result (SetsOut (a_request (request_view request)) steps.old steps.new) }
     ensures kept { OnErr result (state.new ≡ state.old) }
 {
     match request {
         Request::Edit(edit) => respond_edit(alloc, state, edit, reply),
-        Request::Query(query) => respond_query(alloc, state, query, reply),
+        Request::Query(query) => respond_query(alloc, state, query, reply, steps),
     }
 }
 
@@ -102,22 +105,24 @@ fn brings_tree(edit: &Edit) -> bool
 }
 
 /// Answers a query, or refuses it.
-fn respond_query(
+fn respond_query<L: Drop>(
     alloc: Global,
     state: &Option<Page>,
     query: Query,
     reply: &mut String,
+    steps: &mut Steps<L>,
 ) -> Result<(), NoMemory>
     requires empty { string_bytes reply.old ≡ [] }
-    ensures response { OnOk result (IsResponse (a_request (a_query query))
-        (empty_logs (logs_of_asked (a_request (a_query query)))) (string_bytes reply.new)
-        state.now state.now) }
+    ensures response { OnOk result (CarriesOut (a_request (a_query query)) (string_bytes reply.new)
+        state.now state.now steps.old steps.new) }
+    ensures begun { OnErr result (SetsOut (a_request (a_query query)) steps.old steps.new) }
 {
     match state {
         Some(page) => match query {
             Query::Dump => respond_dump(alloc, page, reply),
             Query::Rules => push_rules(alloc, page, reply),
             Query::Match(selector) => respond_match(alloc, page, &selector, reply),
+            Query::Style(id) => respond_style(alloc, page, id, reply, steps),
         },
         None => push_error(reply, Cause::NotLoaded),
     }

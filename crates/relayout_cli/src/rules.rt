@@ -1,22 +1,22 @@
 //! The reply to `rules`.
-ghost use Rattle.std.specs.Prelude.{◌≡◌, ◌++◌, ◌+◌, ◌%◌, ◌/◌, ◌∷◌, ◌<◌, [], OnOk, IfOk, string_bytes, codes, flat_map, encode_utf8};
-ghost use Rattle.std.specs.Str.{chars};
+ghost use Rattle.std.specs.Prelude.{◌≡◌, ◌++◌, OnOk, IfOk, string_bytes, flat_map};
 ghost use Rattle.std.specs.Fmt.{decimal};
 ghost use Rattle.rules_model.specs.PreludeText.{token_text, prelude_text};
 ghost use Rattle.css_tokens.specs.Nested.{components_view};
 ghost use Rattle.css_rules.specs.Views.{sheet_view};
 ghost use Rattle.css_model.specs.Components.{close_tokens};
-ghost use Rattle.reply_model.specs.Spelling.{field, in_quotes, quoted, hex_digit, ok_line};
+ghost use Rattle.reply_model.specs.Spelling.{field, in_quotes, quoted, ok_line};
 ghost use Rattle.reply_model.specs.RulesText.{rule_lines, rules_text};
 ghost use Rattle.relayout_cli.specs.Sheets.{texts_of, kept_rules};
 ghost use Rattle.relayout_cli.specs.inner.RuleLines.{tokens_in_quotes, component_in_quotes, components_in_quotes, condition_counts, count_at, kept_line, lines_of_all};
 
 use crate::page::Page;
-use crate::replies::{push_field, push_ok, push_text};
+use crate::replies::push_ok;
 use css_model::{Token, TokenType};
 use css_rules::{Component, Condition, Sheet, StyleRule};
 use itoa::Buffer;
 use port_core::{NoMemory, Seq};
+use reply_texts::{push_field, push_in_quotes, push_text};
 use std::alloc::Global;
 
 /// Appends the lines of all style rules of a page.
@@ -171,50 +171,4 @@ fn push_token(reply: &mut String, token: &Token) -> Result<(), NoMemory>
         TokenType::Whitespace => push_text(reply, " "),
         _ => push_in_quotes(reply, token.spelling.as_str()),
     }
-}
-
-/// Appends a text as it stands between quotes.
-fn push_in_quotes(reply: &mut String, text: &str) -> Result<(), NoMemory>
-    ensures { OnOk result (string_bytes reply.new
-        ≡ string_bytes reply.old ++ flat_map in_quotes (chars text.now)) }
-{
-    for c in text.chars() {
-        push_char_in_quotes(reply, c)?;
-    }
-    Ok(())
-}
-
-/// Appends a code point as it stands between quotes.
-fn push_char_in_quotes(reply: &mut String, c: char) -> Result<(), NoMemory>
-    ensures { OnOk result (string_bytes reply.new ≡ string_bytes reply.old ++ in_quotes c) }
-{
-    if c == '"' {
-        push_text(reply, "\\\"")
-    } else if c == '\\' {
-        push_text(reply, "\\\\")
-    } else if (c as u32) < 32 {
-        push_by_number(reply, c as u32)
-    } else {
-        reply.push(c)
-    }
-}
-
-/// Appends a code point below 32 by its number.
-fn push_by_number(reply: &mut String, number: u32) -> Result<(), NoMemory>
-    requires { number < 32 }
-    ensures { OnOk result (string_bytes reply.new ≡ string_bytes reply.old
-        ++ (codes "\\u00" ++ (hex_digit (number / 16) ∷ hex_digit (number % 16) ∷ []))) }
-{
-    push_text(reply, "\\u00")?;
-    push_hex_digit(reply, number / 16)?;
-    push_hex_digit(reply, number % 16)
-}
-
-/// Appends a digit of base 16.
-fn push_hex_digit(reply: &mut String, digit: u32) -> Result<(), NoMemory>
-    requires { digit < 16 }
-    ensures { OnOk result (string_bytes reply.new ≡ string_bytes reply.old ++ (hex_digit digit ∷ [])) }
-{
-    let code = if digit < 10 { 48 + digit } else { 87 + digit };
-    reply.push(code as u8 as char)
 }

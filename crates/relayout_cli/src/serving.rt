@@ -14,6 +14,7 @@ use crate::status::Status;
 use page_model::Cause;
 use port_core::{Line, LineReader, NoMemory, Push, Sink, Source, Steps};
 use relayout_requests::{Asked, Request, ask};
+use request_model::Query;
 use std::alloc::Global;
 
 /// What comes next of a script.
@@ -114,18 +115,19 @@ fn answer<O: Sink, L: Drop>(
 {
     begin_log(&asked, steps);
     reply.clear();
-    match respond(alloc, state, asked, reply) {
+    match respond(alloc, state, asked, reply, steps) {
         Ok(()) => tell(reply.as_str(), sink),
         Err(NoMemory) => Turn::NoMemory,
     }
 }
 
-/// Begins a new log where a line asks for an edit.
+/// Begins a new log where a line asks for an edit, or for boxes or styles, which are computed anew.
 fn begin_log<L: Drop>(asked: &Asked, steps: &mut Steps<L>)
     ensures { steps.new ≡ steps.old ++ events (empty_logs (logs_of_asked (asked_view asked.now))) }
 {
-    if let Asked::Request(Request::Edit(_)) = asked {
-        steps.mark();
+    match asked {
+        Asked::Request(Request::Edit(_) | Request::Query(Query::Dump | Query::Style(_))) => steps.mark(),
+        _ => {}
     }
 }
 

@@ -16,8 +16,6 @@ use Rattle.rules_model.specs.Declarations.{Declaration}
 use Rattle.rules_model.specs.Rules.{Condition, StyleRule}
 use Rattle.rules_model.specs.Sheets.{style_attr_of, style_rules_of}
 use Rattle.selectors_model.specs.Matching.{elements_of}
-use Rattle.value_model.specs.Lengths.{bases_of_unit, unit_of}
-use Rattle.value_model.specs.declared.length_unit.LengthUnit.{LengthUnit}
 
 -- ---- values
 
@@ -25,13 +23,14 @@ use Rattle.value_model.specs.declared.length_unit.LengthUnit.{LengthUnit}
 abbrev pub unbuilt_functions : List Text
 unbuilt_functions = codes "var" ∷ codes "calc" ∷ codes "min" ∷ codes "max" ∷ codes "clamp" ∷ []
 
--- a unit refers to a container (CSS Conditional 5, section 7)
-abbrev pub refers_to_container : LengthUnit → Bool
-refers_to_container u = (bases_of_unit u.base).cqw || (bases_of_unit u.base).cqh
+-- the units of containers (CSS Conditional 5, section 7)
+abbrev pub unbuilt_units : List Text
+unbuilt_units =
+    codes "cqw" ∷ codes "cqh" ∷ codes "cqi" ∷ codes "cqb" ∷ codes "cqmin" ∷ codes "cqmax" ∷ []
 
 abbrev pub is_unbuilt_type : TokenType → Bool
 is_unbuilt_type (Function name) = list_any (str_eq_ignore_ascii_case name) unbuilt_functions
-is_unbuilt_type (Dimension n name) = option_map_or refers_to_container (unit_of name) false
+is_unbuilt_type (Dimension n name) = list_any (str_eq_ignore_ascii_case name) unbuilt_units
 is_unbuilt_type other = false
 
 abbrev pub is_unbuilt_token : Token → Bool

@@ -1,6 +1,6 @@
 use Rattle.std.proofs.Common.{◌≡◌, ◌++◌, flat_map, string_bytes}
 use Rattle.reply_model.specs.Spelling.{in_quotes}
-use Rattle.relayout_cli.proofs.rules.push_in_quotes.Given as goal
+use Rattle.reply_texts.proofs.quotes.push_in_quotes.Given as goal
 
 -- what came so far was appended
 abbrev pub invariant-loop-c : goal.invariant-loop-c

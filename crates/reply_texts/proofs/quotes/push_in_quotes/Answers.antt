@@ -3,7 +3,7 @@ use Rattle.std.proofs.lemmas.Iterator.{YieldsList-from_chars}
 use Rattle.std.proofs.lemmas.Iterator.Consumers.{YieldsList-end}
 use Rattle.std.proofs.lemmas.List.{flat_map_more}
 use Rattle.reply_model.specs.Spelling.{in_quotes}
-use Rattle.relayout_cli.proofs.rules.push_in_quotes.Goals as goal
+use Rattle.reply_texts.proofs.quotes.push_in_quotes.Goals as goal
 
 pub loop-c-preserved : goal.loop-c-preserved
 loop-c-preserved c =

@@ -1,0 +1,3 @@
+pub mod Paths
+pub mod Styles
+pub mod inner

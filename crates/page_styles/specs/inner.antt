@@ -1,0 +1,3 @@
+-- What private functions cite.
+pub mod Sources
+pub mod Unbuilt

@@ -1,0 +1,34 @@
+//! The lines of a style.
+ghost use Rattle.prop_table.specs.Styles.{style_view};
+ghost use Rattle.prop_table.specs.Views.{final_view};
+ghost use Rattle.reply_model.specs.StyleText.{style_lines, value_line};
+ghost use Rattle.std.specs.Prelude.{◌≡◌, ◌++◌, OnOk, string_bytes};
+
+use crate::fields::push_text;
+use crate::values::push_final;
+use port_core::NoMemory;
+use prop_table::{Final, Prop, Style, all_props, prop_name};
+
+/// Appends the lines of a style: one for each property, in their order.
+#[tactic(auto, using(cascade_core::proofs::ValueIn::value_there), unfolding(reply_model::specs::StyleText::style_lines))]
+pub fn push_style(reply: &mut String, style: &Style) -> Result<(), NoMemory>
+    ensures { OnOk result (string_bytes reply.new
+        ≡ string_bytes reply.old ++ style_lines (style_view style.now)) }
+{
+    for prop in all_props() {
+        push_value(reply, *prop, style.get(*prop))?;
+    }
+    Ok(())
+}
+
+/// Appends the line of a property.
+#[tactic(auto, unfolding(reply_model::specs::StyleText::value_line))]
+fn push_value(reply: &mut String, prop: Prop, value: &Final) -> Result<(), NoMemory>
+    ensures { OnOk result (string_bytes reply.new
+        ≡ string_bytes reply.old ++ value_line prop (final_view value.now)) }
+{
+    push_text(reply, prop_name(prop))?;
+    push_text(reply, ": ")?;
+    push_final(reply, value)?;
+    push_text(reply, "\n")
+}
