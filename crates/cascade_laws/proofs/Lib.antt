@@ -2,3 +2,6 @@ pub mod Strength
 pub mod Winning
 pub mod Values
 pub mod Later
+pub mod Parentless
+pub mod AreStyled
+pub mod TreeStyles
