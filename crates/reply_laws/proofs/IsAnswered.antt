@@ -1,6 +1,6 @@
 -- What a line asks for has an answer, and by its logs there is one.
 use Rattle.std.proofs.Common.{IsSome, List, None, Option, Some, [], ap, false, is_none, length, refl, subst, sym, ℕ, ◌++◌, ◌∷◌, ◌∙◌, ◌≡◌}
-use Rattle.cascade_laws.proofs.AreStyled.{element-same}
+use Rattle.cascade_laws.proofs.AreStyled.{element-same, element-some}
 use Rattle.cascade_laws.proofs.TreeStyles.{some-styled}
 use Rattle.cascade_model.specs.DocumentStyles.{Styles}
 use Rattle.layout_laws.proofs.FlatAssignment.{some-consistent}
@@ -67,6 +67,10 @@ style-element page i none =
     ((is_none (name_at i page.document.root), NotElement) ∷ (has_unbuilt_styles page, NotBuilt) ∷ []) none in
     let b = first-false (is_none (name_at i page.document.root)) NotElement ((has_unbuilt_styles page, NotBuilt) ∷ []) a.1 in
     none-some (name_at i page.document.root) b.0
+
+pub element-style : (page : Page) (i : ℕ) (styles : Styles) → refusal_of (Some page) (query (Style i)) ≡ None
+    → AreStylesOf page styles → IsSome (styles i)
+element-style page i styles none h = element-some (styled_page page) styles page.document.root h i (style-element page i none)
 
 -- the reply to a style under styles
 abbrev style_reply : Styles → ℕ → List ℕ

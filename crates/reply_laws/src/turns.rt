@@ -1,5 +1,5 @@
 //! Laws of turns: one line is answered, and leads from one place of a script to the next.
-ghost use Rattle.std.specs.Prelude.{◌≡◌, ◌++◌, ℕ, List, [], length, None, Some};
+ghost use Rattle.std.specs.Prelude.{◌≡◌, ◌++◌, ℕ, List, [], length, IsSome, None, Some};
 ghost use Rattle.cascade_model.specs.DocumentStyles.{Styles};
 ghost use Rattle.reply_laws.specs.Logs.{AreAllDistinct};
 ghost use Rattle.reply_laws.specs.States.{StateHasGivenIds};
@@ -58,21 +58,23 @@ pub fn dumps_show_the_assignment()
         → reply ≡ text_unless (first_of (dump_causes page a)) (dump_text page.document.root a ++ ok_line) }
 {}
 
+/// A style that is not refused is the lines of the style that the element has by the cascade: in any
+/// styles of the page, as an element has not two.
+pub fn styles_show_the_cascade()
+    ensures has_a_style { (page : Page) (i : ℕ) (styles : Styles)
+        → refusal_of (Some page) (query (Style i)) ≡ None → AreStylesOf page styles → IsSome (styles i) }
+    ensures text { (setting : Setting) (from to : Course) (page : Page) (i : ℕ) (styles : Styles)
+        (own : List Log) (reply : List ℕ)
+        → from.state ≡ Some page → refusal_of from.state (query (Style i)) ≡ None
+        → AreStylesOf page styles → IsTurn setting from (request (query (Style i))) own reply to
+        → reply ≡ style_text (styles i) ++ ok_line }
+{}
+
 /// An accepted edit leads to the state after it, and what it logs is the last log.
 pub fn accepted_edits_lead_on()
     ensures { (setting : Setting) (from to : Course) (e : Edit) (own : List Log) (reply : List ℕ)
         → refusal_of from.state (edit e) ≡ None → IsTurn setting from (request (edit e)) own reply to
         → (to.state ≡ state_after_edit from.state e) × (to.last ≡ newest own from.last) }
-{}
-
-/// A style that is not refused is of an element of what is loaded, and is the lines of its style by the
-/// cascade: by any styles of the page, as there are not two.
-pub fn styles_show_the_cascade()
-    ensures { (setting : Setting) (from to : Course) (page : Page) (i : ℕ) (styles : Styles)
-        (own : List Log) (reply : List ℕ)
-        → from.state ≡ Some page → refusal_of from.state (query (Style i)) ≡ None
-        → AreStylesOf page styles → IsTurn setting from (request (query (Style i))) own reply to
-        → reply ≡ style_text (styles i) ++ ok_line }
 {}
 
 /// What a line asks for begins so many logs, however it is answered: an edit, a dump and a style one, be
