@@ -1,13 +1,14 @@
 -- Styles of the elements that are found by their ids.
-use Rattle.std.proofs.Common.{◌≡◌, ◌∙◌, ◌==◌, ap, sym, refl, subst, cond, Bool, true, false, ℕ, ℤ, None, Some, IsSome, is_some, inl, inr, eqb-true, option_and_then}
+use Rattle.std.proofs.Common.{◌≡◌, ◌∙◌, ◌==◌, ap, sym, refl, subst, cond, Bool, true, false, ℕ, ℤ, None, Option, Some, IsSome, is_some, inl, inr, eqb-true, option_and_then}
 use Rattle.std.proofs.lemmas.Bool.{false≢true}
 use Rattle.std.proofs.lemmas.Option.{none-some, same_Some}
-use Rattle.page_laws.proofs.Find.{named-some}
+use Rattle.page_laws.proofs.Find.{find-top, named-some}
 use Rattle.page_laws.proofs.IsAmong.{is_among-true}
 use Rattle.page_laws.proofs.Options.{if-found, none-or-some, or-found}
 use Rattle.page_model.specs.Document.{IsAmong, Node, Nodes, element, find, find_in, id_of, ids_of, is_among, name_at, name_of, no_nodes, node, parent_below, parent_in, parent_of, text}
 use Rattle.cascade_model.specs.Defaulting.{Style}
 use Rattle.cascade_model.specs.DocumentStyles.{AllStyledBelow, AreStyled, AreStyledBelow, Page, Styles, child_style, root_style}
+use Rattle.cascade_laws.proofs.Parentless.{parentless-root}
 use Rattle.cascade_laws.specs.Styles.{IsChildOfStyled, root_font_size}
 
 -- ---- trees of which the top has a given style
@@ -44,6 +45,15 @@ pub root-style : (page : Page) (styles : Styles) (root : Node) → AreStyled pag
     → IsSome (name_of root) → styles (id_of root) ≡ Some (root_style page (id_of root))
 root-style page styles (element i name attributes children) h named = h.0
 root-style page styles (text i cs) h named = absurd (false≢true named)
+
+-- the same of an element without a parent
+pub parentless-style : (page : Page) (styles : Styles) (root : Node) (i : ℕ) → AreStyled page styles root
+    → IsSome (name_at i root) → parent_of i root ≡ None → styles i ≡ Some (root_style page i)
+parentless-style page styles root i h named alone =
+    let top : i ≡ id_of root = parentless-root root i named alone in
+    let named_root : IsSome (name_of root) =
+    subst (λ (o : Option Node). IsSome (option_and_then name_of o)) (ap (λ (j : ℕ). find j root) top ∙ find-top root) named in
+    ap styles top ∙ (root-style page styles root h named_root ∙ ap (λ (j : ℕ). Some (root_style page j)) (sym top))
 
 -- ---- each element has a style
 

@@ -2,6 +2,7 @@
 //! prover computes.
 
 pub mod defaulting;
+pub mod documents;
 pub mod fonts;
 pub mod order;
 pub mod rows;

@@ -1,15 +1,16 @@
 -- Words of the examples: styles of elements in small documents with small sheets.
-use Rattle.std.specs.Prelude.{ℕ, pos, List, [], ◌∷◌, ◌++◌, map}
+use Rattle.std.specs.Prelude.{ℕ, ◌==◌, pos, if◌then◌else◌, List, [], ◌∷◌, ◌++◌, map, codes, Some, None, is_some}
 use Rattle.css_model.specs.Classes.{Text}
-use Rattle.page_model.specs.Document.{Node, element, no_nodes, node}
+use Rattle.page_model.specs.Document.{Node, element, text, no_nodes, node}
 use Rattle.rules_model.specs.Sheets.{style_rules_of}
 use Rattle.value_model.specs.declared.prop.Prop.{Prop}
+use Rattle.value_model.specs.Properties.{is_same_prop, pixels, properties, property}
 use Rattle.value_model.specs.Lengths.{in_units}
 use Rattle.value_model.specs.Values.{Final, length as length_value}
 use Rattle.cascade_model.specs.declared.origin.Origin.TheVariants.{UserAgent}
 use Rattle.cascade_model.specs.Books.{author_rules, book_rules}
-use Rattle.cascade_model.specs.Defaulting.{Style, font_size_in, value_in}
-use Rattle.cascade_model.specs.DocumentStyles.{Page, child_style, root_style}
+use Rattle.cascade_model.specs.Defaulting.{Style, font_size_in, style_of_border, value_in}
+use Rattle.cascade_model.specs.DocumentStyles.{AreStyled, Page, Styles, child_style, root_style}
 
 -- ---- documents
 
@@ -59,3 +60,30 @@ of_grandchild page p = value_in (style_of_grandchild page) p
 -- a length in units
 abbrev pub units : ℕ → Final
 units n = length_value (in_units (pos n))
+
+-- ---- whole styles
+
+-- one of these values, or the initial one; a border without a style has no width
+abbrev pub value_among : List (Prop × Final) → Prop → Final
+value_among [] p = if is_some (style_of_border p) then pixels 0 else (property p).initial
+value_among ((q, v) ∷ values) p = if is_same_prop q p then v else value_among values p
+
+-- the style with these values, and else initial ones
+abbrev pub initial_but : List (Prop × Final) → Style
+initial_but values = map (value_among values) properties
+
+-- three elements, one below another, with these `style` attributes, and a text in the last
+abbrev pub family : (first second third : Text) → Node
+family first second third =
+    parent 0 (codes "div") (attribute (codes "style") first ∷ [])
+    (parent 1 (codes "p") (attribute (codes "style") second ∷ [])
+    (parent 2 (codes "q") (attribute (codes "style") third ∷ []) (text 3 (codes "x"))))
+
+-- all elements of a page have the styles of the cascade
+abbrev pub IsStyled : Page → Styles → Type 0
+IsStyled page styles = AreStyled page styles page.root
+
+-- styles of the ids 0, 1 and 2
+abbrev pub three_styles : (first second third : Style) → Styles
+three_styles first second third i =
+    if i == 0 then Some first else if i == 1 then Some second else if i == 2 then Some third else None
