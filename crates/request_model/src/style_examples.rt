@@ -7,7 +7,7 @@ ghost use Rattle.request_model.specs.declared.query.Query.TheVariants.{Style};
 ghost use Rattle.request_model.specs.Requests.{asked_of, broken, query, request};
 ghost use Rattle.request_model.specs.States.{query_causes, refusal_of};
 ghost use Rattle.request_model.specs.UnbuiltStyles.{has_unbuilt, has_unbuilt_rule};
-ghost use Rattle.request_model.specs.inner.Examples.{page_with, page_with_attribute, page_with_sheets};
+ghost use Rattle.request_model.specs.inner.Examples.{page_with, page_with_attribute, page_with_attributes, page_with_sheets};
 ghost use Rattle.rules_model.specs.Sheets.{style_attr_of};
 ghost use Rattle.serde_json.specs.Data.{string, object, number, member, no_members, null, unsigned};
 
@@ -84,6 +84,10 @@ pub fn examples_of_unbuilt_pages()
     ensures invalid_selector { has_unbuilt_rule (codes "!{--a:1}") ≡ true }
     ensures attribute { first_of (query_causes (Some (page_with_attribute (codes "--a:1"))) (Style 0))
         ≡ Some NotBuilt }
+    ensures attribute_of_the_root { first_of (query_causes
+        (Some (page_with_attributes ((codes "style", codes "--a:1") ∷ []) [])) (Style 1)) ≡ Some NotBuilt }
+    ensures other_attribute { first_of (query_causes
+        (Some (page_with_attributes [] ((codes "class", codes "--a:1") ∷ []))) (Style 1)) ≡ None }
     ensures plain_attribute { first_of (query_causes (Some (page_with_attribute (codes "width:1px"))) (Style 0))
         ≡ None }
 {}
