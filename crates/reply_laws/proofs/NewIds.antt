@@ -1,5 +1,5 @@
 -- The ids of the new nodes of an edit.
-use Rattle.std.proofs.Common.{List, None, Option, Some, [], not, sym, true, ℕ, ◌∷◌, ◌≡◌}
+use Rattle.std.proofs.Common.{List, None, Option, Some, [], sym, true, ℕ, ◌∷◌, ◌≡◌}
 use Rattle.std.proofs.lemmas.Bool.{false≢true}
 use Rattle.page_laws.proofs.DocumentAfterInsert.{document-order}
 use Rattle.page_laws.proofs.WithIds.{ids-with_ids}

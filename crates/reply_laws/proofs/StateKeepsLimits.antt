@@ -1,5 +1,5 @@
 -- The limits of what is loaded after a turn.
-use Rattle.std.proofs.Common.{List, None, Option, Some, ltb-false, nat_lt, not, refl, subst, sym, ℕ, ◌||◌, ◌∷◌, ◌≡◌, unwrap_or, []}
+use Rattle.std.proofs.Common.{List, None, Option, Some, ltb-false, nat_lt, refl, subst, sym, ℕ, ◌||◌, ◌∷◌, ◌≡◌, unwrap_or, []}
 use Rattle.layout_model.specs.Setting.{Setting}
 use Rattle.page_laws.proofs.Options.{or-false}
 use Rattle.page_model.specs.Edits.{insert_causes, load_causes}

@@ -1,7 +1,6 @@
 -- How computed values are printed: in ASCII, but for the names of containers.
-use Rattle.std.specs.Prelude.{ℕ, ℤ, ◌/◌, ◌%◌, List, [], ◌∷◌, ◌++◌, codes, flat_map, map, if◌then◌else◌, Bool}
+use Rattle.std.specs.Prelude.{ℕ, ◌/◌, ◌%◌, List, [], ◌∷◌, ◌++◌, codes, flat_map, map, if◌then◌else◌, Bool}
 use Rattle.std.specs.Fmt.{signed_decimal}
-use Rattle.page_model.specs.Trees.{Text}
 use Rattle.reply_model.specs.Spelling.{field, hex_digit, quoted}
 use Rattle.value_model.specs.declared.color.Color.{Color}
 use Rattle.value_model.specs.declared.color.Color.TheVariants.{CurrentColor, Rgba as AnRgba}

@@ -12,5 +12,5 @@ pub use match_examples::{examples_of_match_lines, examples_of_match_replies};
 pub use rules_examples::{examples_of_quoted_strings, examples_of_rule_lines};
 pub use style_examples::{
     examples_of_style_logs, examples_of_style_replies, examples_of_style_texts,
-    examples_of_value_texts,
+    examples_of_styled_pages, examples_of_value_texts,
 };

@@ -1,20 +1,27 @@
 //! Lines of `style`, and what styles log.
-ghost use Rattle.std.specs.Prelude.{◌≡◌, ℕ, List, ℤ, pos, negsuc, [], ◌∷◌, ◌++◌, codes, map, Some, None, true, false};
+ghost use Rattle.std.specs.Prelude.{◌≡◌, ℕ, List, Option, ℤ, pos, negsuc, [], ◌∷◌, ◌++◌, codes, map, Some, None, true, false};
 ghost use Rattle.std.specs.Fmt.{signed_decimal};
 ghost use Rattle.stream_model.specs.Ledger.{Log};
 ghost use Rattle.stream_model.specs.declared.kind.Kind.TheVariants.{Match, Style as styling, Measure, Size, Place};
+ghost use Rattle.page_model.specs.Document.{element, no_nodes};
 ghost use Rattle.page_model.specs.Pages.{Page};
+ghost use Rattle.page_model.specs.Trees.{Text};
+ghost use Rattle.page_model.specs.declared.cause.Cause.{Cause};
+ghost use Rattle.layout_model.specs.Consistent.{Assignment};
 ghost use Rattle.page_model.specs.declared.viewport.Viewport.{Viewport};
-ghost use Rattle.request_model.specs.Requests.{Asked, query};
-ghost use Rattle.request_model.specs.States.{accepted};
+ghost use Rattle.request_model.specs.Requests.{Asked, query, request};
+ghost use Rattle.request_model.specs.States.{accepted, refused};
 ghost use Rattle.request_model.specs.declared.query.Query.TheVariants.{Style};
 ghost use Rattle.layout_model.specs.Setting.{Setting};
 ghost use Rattle.cascade_model.specs.DocumentStyles.{Styles};
-ghost use Rattle.reply_model.specs.Replies.{Course, IsAnswered, IsStyleLog};
+ghost use Rattle.cascade_model.specs.Books.{book_rules, user_agent_rules};
+ghost use Rattle.cascade_model.specs.declared.origin.Origin.TheVariants.{Author};
+ghost use Rattle.rules_model.specs.Sheets.{style_rules_of};
+ghost use Rattle.reply_model.specs.Replies.{Course, IsAnswered, IsLogOf, IsStyleLog};
 ghost use Rattle.reply_model.specs.Spelling.{ok_line};
-ghost use Rattle.reply_model.specs.StyleText.{AreStylesOf, style_lines, style_text, value_line};
+ghost use Rattle.reply_model.specs.StyleText.{AreStylesOf, style_lines, style_text, styled_page, value_line};
 ghost use Rattle.reply_model.specs.ValueTexts.{final_text};
-ghost use Rattle.reply_model.specs.inner.Examples.{other_order, initial_lines};
+ghost use Rattle.reply_model.specs.inner.Examples.{other_order, initial_lines, page_of_sheets};
 ghost use Rattle.value_model.specs.declared.color.Color.TheVariants.{CurrentColor, Rgba as AnRgba};
 ghost use Rattle.value_model.specs.declared.keyword.Keyword.TheVariants.{InlineBlock, None as NoneKeyword};
 ghost use Rattle.value_model.specs.declared.prop.Prop.TheVariants.{BorderTopColor, LineHeight, Width};
@@ -95,6 +102,8 @@ pub fn examples_of_style_logs()
     ensures measured { (page : Page) → IsStyleLog (Some page) ((Measure, 0) ∷ []) → ⊥ }
     ensures sized { (page : Page) → IsStyleLog (Some page) ((Size, 0) ∷ []) → ⊥ }
     ensures placed { (page : Page) → IsStyleLog (Some page) ((Place, 0) ∷ []) → ⊥ }
+    ensures of_a_style { (setting : Setting) (from : Course) (i : ℕ) (a : Option Assignment) (log : Log)
+        → IsStyleLog from.state log → IsLogOf setting from (query (Style i)) a log }
     ensures nothing_loaded { IsStyleLog None ((Match, 0) ∷ []) → ⊥ }
 {}
 
@@ -111,4 +120,19 @@ pub fn examples_of_style_replies()
         → IsAnswered (accepted (query (Style i))) setting (record { state = Some page; last = [] })
         asked own reply to
         → (log : Log) × IsStyleLog (Some page) log × (own ≡ log ∷ []) }
+    ensures refused_logs_nothing { (setting : Setting) (from to : Course) (own : List Log)
+        (reply : List ℕ) (c : Cause) (i : ℕ)
+        → IsAnswered (refused c) setting from (request (query (Style i))) own reply to → own ≡ [] ∷ [] }
+{}
+
+/// Styles are made from the rules of the user agent and of the page's sheets, its viewport and its
+/// document.
+pub fn examples_of_styled_pages()
+    ensures book { (first second : Text) → (styled_page (page_of_sheets (first ∷ second ∷ []))).book
+        ≡ user_agent_rules ++ (book_rules Author (style_rules_of first)
+        ++ (book_rules Author (style_rules_of second) ++ [])) }
+    ensures viewport { (sheets : List Text) → (styled_page (page_of_sheets sheets)).viewport
+        ≡ record { width = 800; height = 600 } }
+    ensures root { (sheets : List Text) → (styled_page (page_of_sheets sheets)).root
+        ≡ element 0 (codes "div") [] no_nodes }
 {}

@@ -1,5 +1,5 @@
 -- Which requests are refused, and the state that a line leaves.
-use Rattle.std.specs.Prelude.{ℕ, ◌||◌, List, [], ◌∷◌, ◌++◌, Bool, true, false, length, take, drop, suc, not, nat_lt, max, Option, Some, None, is_none, is_some, option_map, unwrap_or, codes}
+use Rattle.std.specs.Prelude.{ℕ, ◌||◌, List, [], ◌∷◌, ◌++◌, Bool, true, false, length, take, drop, suc, not, nat_lt, Option, Some, None, is_none, is_some, option_map, unwrap_or, codes}
 use Rattle.std.specs.List.{list_any}
 use Rattle.page_model.specs.Trees.{Text, Tree, has_node, size}
 use Rattle.page_model.specs.Document.{Document, Node, document, find, name_at, value_at}

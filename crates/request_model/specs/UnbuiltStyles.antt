@@ -1,6 +1,6 @@
 -- Which pages have styles that are not built yet: those with custom properties, functions, units of
 -- containers, or conditions.
-use Rattle.std.specs.Prelude.{ℕ, ◌||◌, not, List, [], ◌∷◌, codes, Bool, true, false, Option}
+use Rattle.std.specs.Prelude.{ℕ, ◌||◌, List, [], ◌∷◌, codes, Bool, true, false}
 use Rattle.std.specs.Char.{eq_ignore_ascii_case}
 use Rattle.std.specs.List.{list_any, starts_with}
 use Rattle.std.specs.Option.{option_map_or}

@@ -2,11 +2,11 @@
 ghost use Rattle.std.specs.Prelude.{◌≡◌, ℕ, List, [], ◌∷◌, Some, None, true, false, codes};
 ghost use Rattle.std.specs.Str.{chars, is_utf8};
 ghost use Rattle.serde_json.specs.Read.{read};
-ghost use Rattle.page_model.specs.Trees.{Tree, elem, characters, no_trees, tree};
+ghost use Rattle.page_model.specs.Trees.{Text, Tree, elem, characters, no_trees, tree};
 ghost use Rattle.page_model.specs.Document.{element, text, node, no_nodes};
 ghost use Rattle.page_model.specs.declared.cause.Cause.TheVariants.{LineTooLong, NotElement, BadJson, BadRequest, NotLoaded, NoNode, IsRoot, BadIndex, ViewportRange, NotBuilt};
-ghost use Rattle.request_model.specs.declared.query.Query.TheVariants.{Dump, Rules, Style};
-ghost use Rattle.request_model.specs.Requests.{load, insert, remove, edit, query, nothing, broken, request, asked_of, asked_of_line, value_of, is_name_not_built, Edit};
+ghost use Rattle.request_model.specs.declared.query.Query.TheVariants.{Dump, Match, Rules, Style};
+ghost use Rattle.request_model.specs.Requests.{load, insert, remove, edit, query, nothing, broken, request, asked_of, asked_of_line, value_of, is_name_not_built, Edit, Request};
 ghost use Rattle.request_model.specs.States.{silent, brings_tree, edit_causes, refusal_of, answer_to, accepted, refused, state_after_edit, accepted_by, next_id, logs_of, logs_of_asked};
 ghost use Rattle.std.specs.List.{list_all, list_any};
 ghost use Rattle.stream_model.specs.Lines.{is_blank, is_too_long};
@@ -144,7 +144,8 @@ pub fn examples_of_requests()
 {}
 
 /// What lines leave: a load replaces all, its sheets included; a refused request and a query leave
-/// the state as it was; new ids are counted from the load on; edits alone begin a log.
+/// the state as it was; new ids are counted from the load on; an edit, a dump and a style begin
+/// a log, be they refused or not.
 #[tactic(auto, unfolding(crate::specs::States::refusal_of))]
 pub fn examples_of_states()
     ensures loaded { state_after_edit None (load 3 4 (elem (codes "a") [] no_trees) (Some (codes "s" ∷ [])))
@@ -221,9 +222,10 @@ pub fn examples_of_states()
     ensures dump_begins { logs_of (query Dump) ≡ 1 }
     ensures style_begins { (i : ℕ) → logs_of (query (Style i)) ≡ 1 }
     ensures rules_begin_none { logs_of (query Rules) ≡ 0 }
+    ensures match_begins_none { (selector : Text) → logs_of (query (Match selector)) ≡ 0 }
     ensures blank_begins_none { logs_of_asked nothing ≡ 0 }
     ensures broken_begins_none { logs_of_asked (broken NotBuilt) ≡ 0 }
-    ensures asked_edit_begins { (e : Edit) → logs_of_asked (request (edit e)) ≡ 1 }
+    ensures asked_begins { (q : Request) → logs_of_asked (request q) ≡ logs_of q }
 {}
 
 /// A line is looked at by its length first, and then whether it is blank (RFC 8259 section 8.1).

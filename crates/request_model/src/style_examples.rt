@@ -7,7 +7,7 @@ ghost use Rattle.request_model.specs.declared.query.Query.TheVariants.{Style};
 ghost use Rattle.request_model.specs.Requests.{asked_of, broken, query, request};
 ghost use Rattle.request_model.specs.States.{query_causes, refusal_of};
 ghost use Rattle.request_model.specs.UnbuiltStyles.{has_unbuilt, has_unbuilt_rule};
-ghost use Rattle.request_model.specs.inner.Examples.{page_with, page_with_attribute};
+ghost use Rattle.request_model.specs.inner.Examples.{page_with, page_with_attribute, page_with_attributes, page_with_sheets};
 ghost use Rattle.rules_model.specs.Sheets.{style_attr_of};
 ghost use Rattle.serde_json.specs.Data.{string, object, number, member, no_members, null, unsigned};
 
@@ -38,6 +38,8 @@ pub fn examples_of_style_causes()
     ensures no_node { refusal_of (Some (page_with [])) (query (Style 3)) ≡ Some NoNode }
     ensures not_built { refusal_of (Some (page_with (codes "q{--a:1}"))) (query (Style 1)) ≡ Some NotBuilt }
     ensures node_first { refusal_of (Some (page_with (codes "q{--a:1}"))) (query (Style 3)) ≡ Some NoNode }
+    ensures second_sheet { refusal_of (Some (page_with_sheets (codes "p{}" ∷ codes "q{--a:1}" ∷ [])))
+        (query (Style 1)) ≡ Some NotBuilt }
     ensures text_first { refusal_of (Some (page_with (codes "q{--a:1}"))) (query (Style 2)) ≡ Some NotElement }
 {}
 
@@ -75,10 +77,17 @@ pub fn examples_of_unbuilt_pages()
     ensures media { has_unbuilt_rule (codes "@media print{p{}}") ≡ true }
     ensures container { has_unbuilt_rule (codes "@container (width>1px){p{}}") ≡ true }
     ensures no_rule { has_unbuilt_rule (codes "@media print{}") ≡ false }
+    ensures other_at_rule { has_unbuilt_rule (codes "@font-face{--a:1}") ≡ false }
+    ensures at_rule_inside { has_unbuilt_rule (codes "p{@x{--a:1}}") ≡ false }
+    ensures in_a_selector { has_unbuilt_rule (codes "p:not(var(--a),1cqw){}") ≡ false }
     ensures declaration { has_unbuilt_rule (codes "p{}q{--a:1}") ≡ true }
     ensures invalid_selector { has_unbuilt_rule (codes "!{--a:1}") ≡ true }
     ensures attribute { first_of (query_causes (Some (page_with_attribute (codes "--a:1"))) (Style 0))
         ≡ Some NotBuilt }
+    ensures attribute_of_the_root { first_of (query_causes
+        (Some (page_with_attributes ((codes "style", codes "--a:1") ∷ []) [])) (Style 1)) ≡ Some NotBuilt }
+    ensures other_attribute { first_of (query_causes
+        (Some (page_with_attributes [] ((codes "class", codes "--a:1") ∷ []))) (Style 1)) ≡ None }
     ensures plain_attribute { first_of (query_causes (Some (page_with_attribute (codes "width:1px"))) (Style 0))
         ≡ None }
 {}

@@ -2,6 +2,8 @@
 use Rattle.std.specs.Prelude.{ℕ, ℤ, pos, List, [], ◌∷◌, ◌++◌, codes}
 use Rattle.std.specs.Fmt.{decimal, signed_decimal}
 use Rattle.page_model.specs.Document.{Node, element, text, no_nodes, node}
+use Rattle.page_model.specs.Pages.{Page}
+use Rattle.page_model.specs.Trees.{Text}
 
 -- a rule line of its numbers and its prelude in quotes
 abbrev pub line : ℕ → ℕ → ℕ → ℕ → List ℕ → List ℕ
@@ -53,3 +55,11 @@ initial_lines =
     ++ (codes "font-style: normal\n"
     ++ (with_number (codes "font-weight") (pos 400)
     ++ codes "z-index: auto\ntext-decoration-line: none\npointer-events: auto\n")))))))))))))))))))))))))))
+
+-- a `div` with these sheets
+abbrev pub page_of_sheets : List Text → Page
+page_of_sheets sheets = record {
+  document = record { root = element 0 (codes "div") [] no_nodes; next_id = 1 };
+  sheets = sheets;
+  viewport = record { width = 800; height = 600 };
+}
