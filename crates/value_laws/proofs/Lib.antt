@@ -1,2 +1,4 @@
+pub mod Colors
+pub mod Found
 pub mod Longhands
 pub mod Places
