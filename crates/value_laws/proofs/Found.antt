@@ -28,8 +28,8 @@ pub if-test : {X : Type 0} (test : X → Bool) (P : X → Type 0) (o : Option X)
     → IfSome o (λ x. test x ≡ true → P x) → IfSome (if_it test o) P
 if-test test P None h = tt
 if-test test P (Some x) h = elim (cases_Bool (test x)) [
-  | inl yes ↦ rw yes (h yes)
-  | inr no ↦ rw no tt
+  | inl met ↦ rw met (h met)
+  | inr unmet ↦ rw unmet tt
 ]
 
 -- one of two, by a test
