@@ -15,7 +15,7 @@ use Rattle.value_model.specs.Lengths.{ComputedLength, computed_length, in_clampe
 use Rattle.value_model.specs.Properties.{property}
 use Rattle.value_model.specs.Values.{Value, alpha}
 use Rattle.value_laws.specs.ComputedForms.{is_among, is_one_of, is_absolute_length, is_alpha, is_integer_between, is_computed, NotNegative, is_inherited_color}
-use Rattle.value_laws.proofs.Lengths.{tested, dimension-from_zero, length-from_zero}
+use Rattle.value_laws.proofs.Lengths.{tested, dimension-from_zero, length-from_zero, any-length, absolute-computed}
 use Rattle.value_laws.proofs.Values.{OfForms}
 
 -- ---- what computes to something else
@@ -41,9 +41,6 @@ weight-computed k = refl
 
 above-zero : (n : ℤ) → int_le (pos 0) (int_max (pos 0) n) ≡ true
 above-zero n = tested (int_max (pos 0) n) (omega (arith, ints, clamps))
-
-absolute-computed : (base : ℤ) (l : ComputedLength) → is_absolute_length (absolute_length base l) ≡ true
-absolute-computed base l = above-zero (in_clamped_units (used_length l base))
 
 below-one : (n : ℤ) → int_le (int_max (pos 0) (int_min (pos 1000000) n)) (pos 1000000) ≡ true
 below-one n = at-most (int_max (pos 0) (int_min (pos 1000000) n)) (omega (arith, ints, clamps))
@@ -77,10 +74,10 @@ computes-forms MinWidth b parent_font h = (λ k m _. refl, (λ l m _. length-fro
 computes-forms MinHeight b parent_font h = (λ k m _. refl, (λ l m _. length-from_zero b l h m, tt))
 computes-forms MaxWidth b parent_font h = (λ k m _. first _ false m, (λ l m _. length-from_zero b l h m, tt))
 computes-forms MaxHeight b parent_font h = (λ k m _. first _ false m, (λ l m _. length-from_zero b l h m, tt))
-computes-forms MarginTop b parent_font h = (λ k m _. first _ false m, (λ l _. refl, tt))
-computes-forms MarginRight b parent_font h = (λ k m _. first _ false m, (λ l _. refl, tt))
-computes-forms MarginBottom b parent_font h = (λ k m _. first _ false m, (λ l _. refl, tt))
-computes-forms MarginLeft b parent_font h = (λ k m _. first _ false m, (λ l _. refl, tt))
+computes-forms MarginTop b parent_font h = (λ k m _. first _ false m, (λ l _. any-length b l, tt))
+computes-forms MarginRight b parent_font h = (λ k m _. first _ false m, (λ l _. any-length b l, tt))
+computes-forms MarginBottom b parent_font h = (λ k m _. first _ false m, (λ l _. any-length b l, tt))
+computes-forms MarginLeft b parent_font h = (λ k m _. first _ false m, (λ l _. any-length b l, tt))
 computes-forms PaddingTop b parent_font h = (λ l m _. length-from_zero b l h m, tt)
 computes-forms PaddingRight b parent_font h = (λ l m _. length-from_zero b l h m, tt)
 computes-forms PaddingBottom b parent_font h = (λ l m _. length-from_zero b l h m, tt)

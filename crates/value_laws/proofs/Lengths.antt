@@ -1,4 +1,4 @@
--- Lengths that are not negative compute to lengths that are not negative.
+-- Lengths compute to lengths that fit, and those that are not negative to lengths that are not negative.
 use Rattle.std.proofs.Common.{◌≡◌, refl, ℕ, ◌*◌, ◌/◌, ◌<◌, ◌≤◌, Bool, true, false, inl, inr, arith}
 use Rattle.std.specs.Prelude.{ℤ, pos, negsuc, ◌*ℤ◌, neg_ℤ, ◌≤ℤ◌, int_le, int_lt, int_div}
 use Rattle.std.specs.Int.{int_min, int_max}
@@ -11,14 +11,22 @@ use Rattle.value_model.specs.declared.length_unit.Bases.{Bases}
 use Rattle.value_model.specs.declared.length_unit.LengthBase.{LengthBase}
 use Rattle.value_model.specs.declared.length_unit.LengthBase.TheVariants.{Pixel, Em, Rem, Vw, Vh, Vmin, Vmax, Cqw, Cqh, Cqmin, Cqmax}
 use Rattle.value_model.specs.declared.length_unit.LengthUnit.{LengthUnit}
-use Rattle.value_model.specs.Lengths.{Length, dimension, percentage, is_negative, base_length, dimension_value, in_clamped_units, computed_length}
+use Rattle.value_model.specs.Computing.{absolute_length}
+use Rattle.value_model.specs.Lengths.{Length, dimension, percentage, is_negative, base_length, dimension_value, ComputedLength, in_clamped_units, computed_length, used_length}
 use Rattle.value_model.specs.Values.{length}
-use Rattle.value_laws.specs.ComputedForms.{NotNegative, is_length, is_absolute_length}
+use Rattle.value_laws.specs.ComputedForms.{NotNegative, is_units_from, is_length, is_absolute_length, is_any_length}
 
 -- ---- numbers
 
 pub tested : (n : ℤ) → pos 0 ≤ℤ n → int_le (pos 0) n ≡ true
 tested n h = grind (arith, ints)
+
+-- a number of units between these passes the test
+fits-from : (least n : ℤ) → least ≤ℤ n → n ≤ℤ MAX_UNITS → is_units_from least n ≡ true
+fits-from least n h k = rw (passes least n h, passes n MAX_UNITS k) refl
+  where
+    passes : (x y : ℤ) → x ≤ℤ y → int_le x y ≡ true
+    passes x y h = grind (arith, ints)
 
 pub not-below : (n : ℤ) → int_lt n (pos 0) ≡ false → pos 0 ≤ℤ n
 not-below n h = grind (arith, ints)
@@ -40,6 +48,18 @@ clamped-number n h = of-clamped (neg_ℤ MAX_MILLIONTHS) MAX_MILLIONTHS n (natur
 
 pub clamped-length : (n : ℤ) → pos 0 ≤ℤ n → pos 0 ≤ℤ clamped_units n
 clamped-length n h = of-clamped (neg_ℤ MAX_UNITS) MAX_UNITS n (natural _) h
+
+clamped-least : (low high n : ℤ) → low ≤ℤ int_max low (int_min high n)
+clamped-least low high n = omega (arith, ints, clamps)
+
+clamped-greatest : (low high n : ℤ) → low ≤ℤ high → int_max low (int_min high n) ≤ℤ high
+clamped-greatest low high n h = omega (arith, ints, clamps)
+
+in-units-least : (n : ℤ) → neg_ℤ MAX_UNITS ≤ℤ in_clamped_units n
+in-units-least n = clamped-least (neg_ℤ MAX_UNITS) MAX_UNITS (units_of n)
+
+in-units-greatest : (n : ℤ) → in_clamped_units n ≤ℤ MAX_UNITS
+in-units-greatest n = clamped-greatest (neg_ℤ MAX_UNITS) MAX_UNITS (units_of n) (record { le = tt })
 
 of-product : (x y : ℤ) → pos 0 ≤ℤ x → pos 0 ≤ℤ y → pos 0 ≤ℤ (x *ℤ y)
 of-product (pos m) (pos n) h k = natural (m * n)
@@ -85,9 +105,29 @@ of-dimension b n u h k =
 pub dimension-from_zero : (b : Bases) (n : ℤ) (u : LengthUnit) → NotNegative b → int_lt n (pos 0) ≡ false
     → is_absolute_length (length (computed_length b (dimension n u))) ≡ true
 dimension-from_zero b n u h k =
-    tested (in_clamped_units (dimension_value b n u)) (in-units (dimension_value b n u) (of-dimension b n u h (not-below n k)))
+    fits-from (pos 0) (in_clamped_units (dimension_value b n u))
+    (in-units (dimension_value b n u) (of-dimension b n u h (not-below n k))) (in-units-greatest (dimension_value b n u))
 
 pub length-from_zero : (b : Bases) (l : Length) → NotNegative b → is_negative l ≡ false
     → is_length (length (computed_length b l)) ≡ true
 length-from_zero b (dimension n u) h k = dimension-from_zero b n u h k
 length-from_zero b (percentage n) h k = tested n (not-below n k)
+
+pub any-length : (b : Bases) (l : Length) → is_any_length (length (computed_length b l)) ≡ true
+any-length b (dimension n u) =
+    fits-from (neg_ℤ MAX_UNITS) (in_clamped_units (dimension_value b n u)) (in-units-least (dimension_value b n u))
+    (in-units-greatest (dimension_value b n u))
+any-length b (percentage n) = refl
+
+-- where percentages refer to a base
+pub absolute-computed : (base : ℤ) (l : ComputedLength) → is_absolute_length (absolute_length base l) ≡ true
+absolute-computed base l =
+    fits-from (pos 0) (int_max (pos 0) (in_clamped_units (used_length l base)))
+    (from-zero (in_clamped_units (used_length l base)))
+    (to-most (in_clamped_units (used_length l base)) MAX_UNITS (in-units-greatest (used_length l base)) (natural _))
+  where
+    from-zero : (n : ℤ) → pos 0 ≤ℤ int_max (pos 0) n
+    from-zero n = omega (arith, ints, clamps)
+
+    to-most : (n most : ℤ) → n ≤ℤ most → pos 0 ≤ℤ most → int_max (pos 0) n ≤ℤ most
+    to-most n most h k = omega (arith, ints, clamps)

@@ -1,8 +1,9 @@
 -- Which computed values each property has (CSS Cascade 4, section 4.4; the modules of each property).
--- How large a length or a number may be is not said here.
-use Rattle.std.specs.Prelude.{ℕ, ℤ, pos, ◌≤ℤ◌, ◌&&◌, ◌||◌, not, nat_le, int_le, List, [], ◌∷◌, Bool, true, false}
+-- How large a number or a percentage may be is not said here.
+use Rattle.std.specs.Prelude.{ℕ, ℤ, pos, neg_ℤ, ◌≤ℤ◌, ◌&&◌, ◌||◌, not, nat_le, int_le, List, [], ◌∷◌, Bool, true, false}
 use Rattle.std.specs.List.{list_any, list_all}
 use Rattle.std.specs.Str.{bytes_eq, str_eq_ignore_ascii_case}
+use Rattle.units64.specs.declared.constants.TheConstants.{MAX_UNITS}
 use Rattle.css_model.specs.Classes.{Text}
 use Rattle.value_model.specs.declared.color.Color.TheVariants.{CurrentColor, Rgba as AnRgba}
 use Rattle.value_model.specs.declared.color.Rgba.{Rgba}
@@ -28,19 +29,24 @@ abbrev pub is_one_of : List Keyword → Final → Bool
 is_one_of keywords (keyword k) = is_among keywords k
 is_one_of keywords v = false
 
+-- from this number of units to the largest
+abbrev pub is_units_from : ℤ → ℤ → Bool
+is_units_from least n = int_le least n && int_le n MAX_UNITS
+
 -- a length without a percentage, and not below 0
 abbrev pub is_absolute_length : Final → Bool
-is_absolute_length (length (in_units n)) = int_le (pos 0) n
+is_absolute_length (length (in_units n)) = is_units_from (pos 0) n
 is_absolute_length v = false
 
 -- a length or a percentage that is not below 0
 abbrev pub is_length : Final → Bool
-is_length (length (in_units n)) = int_le (pos 0) n
 is_length (length (in_percent n)) = int_le (pos 0) n
-is_length v = false
+is_length v = is_absolute_length v
 
+-- a length or a percentage
 abbrev pub is_any_length : Final → Bool
-is_any_length (length l) = true
+is_any_length (length (in_units n)) = is_units_from (neg_ℤ MAX_UNITS) n
+is_any_length (length (in_percent n)) = true
 is_any_length v = false
 
 -- a number that is not below 0
