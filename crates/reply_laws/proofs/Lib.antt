@@ -1,3 +1,7 @@
+pub mod Numerals
+pub mod Quoted
+pub mod ReadValues
+pub mod ValuesApart
 pub mod AreLogs
 pub mod NewIds
 pub mod StateHasGivenIds
