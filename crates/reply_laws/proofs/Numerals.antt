@@ -11,7 +11,8 @@ use Rattle.std.proofs.lemmas.Str.Parse.{digit_at}
 -- the number that a text with or without a minus sign is
 abbrev pub signed_value : List ℕ → ℤ
 signed_value [] = pos 0
-signed_value (c ∷ cs) = if c == 45 then neg_ℤ (pos (digits_value 10 cs)) else pos (digits_value 10 (c ∷ cs))
+signed_value (c ∷ cs) =
+    if c == 45 then neg_ℤ (pos (digits_value 10 cs)) else pos (digits_value 10 (c ∷ cs))
 
 unsigned-value : (ds : List ℕ) → get_or ds 0 0 ≢ 45 → signed_value ds ≡ pos (digits_value 10 ds)
 unsigned-value [] h = refl

@@ -47,8 +47,8 @@ data Spelt (c : ℕ) : Type 0 where
   escaped : IsEscaped c → Spelt c
   plain : c ≢ 34 → c ≢ 92 → 32 ≤ c → in_quotes c ≡ encode_utf8 c → Spelt c
 
-by-number : (c : ℕ) → c < 32 → in_quotes c ≡ codes "\\u00" ++ (hex_digit (c / 16) ∷ hex_digit (c % 16) ∷ [])
-    → IsEscaped c
+by-number : (c : ℕ) → c < 32
+    → in_quotes c ≡ codes "\\u00" ++ (hex_digit (c / 16) ∷ hex_digit (c % 16) ∷ []) → IsEscaped c
 by-number c low e = record {
   backslash = λ r. rw e refl;
   read = λ r. rw e (ap (λ n. (n, r)) (value-hexes c (omega arith)));
@@ -94,7 +94,8 @@ not-quote-of : (c : ℕ) (r t : List ℕ) → Spelt c → in_quotes c ++ r ≢ 3
 not-quote-of c r t (escaped e) h =
     let first : ◌≡◌ {A = ℕ} 92 34 = ap (λ xs. get_or xs 0 0) (sym (e.backslash r) ∙ h) in
     absurd (omega arith)
-not-quote-of c r t (plain a b l e) h = not-encoded c 34 r t (omega arith) a (ap (λ xs. xs ++ r) (sym e) ∙ h)
+not-quote-of c r t (plain a b l e) h =
+    not-encoded c 34 r t (omega arith) a (ap (λ xs. xs ++ r) (sym e) ∙ h)
 
 not-quote : (c : ℕ) (r t : List ℕ) → in_quotes c ++ r ≢ 34 ∷ t
 not-quote c r t = not-quote-of c r t (spelt c)
@@ -129,7 +130,8 @@ first-quoted s r = refl
 
 -- ---- names
 
-same-fields : (ns ms : List Text) → flat_map field (map quoted ns) ≡ flat_map field (map quoted ms) → ns ≡ ms
+same-fields : (ns ms : List Text)
+    → flat_map field (map quoted ns) ≡ flat_map field (map quoted ms) → ns ≡ ms
 same-fields [] [] h = refl
 same-fields [] (m ∷ ms) h = cc
 same-fields (n ∷ ns) [] h = cc
@@ -143,7 +145,8 @@ not-none : (n : Text) (ns : List Text) → words_text (map quoted (n ∷ ns)) �
 not-none n ns h =
     absurd (omega (arith, first-quoted n (flat_map field (map quoted ns)), ap (λ xs. get_or xs 0 0) h))
 
-pub same-names : (ns ms : List Text) → words_text (map quoted ns) ≡ words_text (map quoted ms) → ns ≡ ms
+pub same-names : (ns ms : List Text)
+    → words_text (map quoted ns) ≡ words_text (map quoted ms) → ns ≡ ms
 same-names [] [] h = refl
 same-names [] (m ∷ ms) h = absurd (not-none m ms (sym h))
 same-names (n ∷ ns) [] h = absurd (not-none n ns h)

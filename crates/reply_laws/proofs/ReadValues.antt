@@ -119,11 +119,13 @@ read-keyword f Overline = refl
 read-keyword f LineThrough = refl
 
 -- the first code point of a numeral is a digit or a minus sign
-numeral-first : (z : ℤ) → unsigned_abs z < 10 ^ 64 → (40 ≤ get_or (signed_decimal z) 0 0) × (get_or (signed_decimal z) 0 0 < 58)
+numeral-first : (z : ℤ) → unsigned_abs z < 10 ^ 64
+    → (40 ≤ get_or (signed_decimal z) 0 0) × (get_or (signed_decimal z) 0 0 < 58)
 numeral-first (pos n) h = let d = first-digit n h in (omega (arith, d.0), omega (arith, d.1))
 numeral-first (negsuc n) h = (omega arith, omega arith)
 
-pub read-numeral : (f : ℤ → Final) (z : ℤ) → unsigned_abs z < 10 ^ 64 → read_value f (signed_decimal z) ≡ f z
+pub read-numeral : (f : ℤ → Final) (z : ℤ) → unsigned_abs z < 10 ^ 64
+    → read_value f (signed_decimal z) ≡ f z
 read-numeral f z h =
     let first = numeral-first z h in
     let text : List ℕ = signed_decimal z in
@@ -162,8 +164,8 @@ containment_of text =
     let third = past (codes "inline-size") second in
     let fourth = past (codes "layout") third in
     let fifth = past (codes "style") fourth in
-    contained (begins (codes "size") text) (begins (codes "inline-size") second) (begins (codes "layout") third)
-    (begins (codes "style") fourth) (begins (codes "paint") fifth)
+    contained (begins (codes "size") text) (begins (codes "inline-size") second)
+    (begins (codes "layout") third) (begins (codes "style") fourth) (begins (codes "paint") fifth)
 
 read-contained : (size inline_size layout style paint : Bool)
     → containment_of (words_text (containment_words (contained size inline_size layout style paint)))

@@ -75,8 +75,8 @@ units-from least n short h =
     let both = and_parts (int_le least n) (int_le n MAX_UNITS) h in
     read-numeral as_length n (short-between n least MAX_UNITS short (omega arith) both.0 both.1)
 
-between : (least greatest : ℕ) (n : ℤ) → least < 10 ^ 64 → greatest < 10 ^ 64 → is_between least greatest n ≡ true
-    → unsigned_abs n < 10 ^ 64
+between : (least greatest : ℕ) (n : ℤ) → least < 10 ^ 64 → greatest < 10 ^ 64
+    → is_between least greatest n ≡ true → unsigned_abs n < 10 ^ 64
 between least greatest n l g h =
     let both = and_parts (int_le (pos least) n) (int_le n (pos greatest)) h in
     short-between n (pos least) (pos greatest) l g both.0 both.1
@@ -100,7 +100,8 @@ numbers (number n) h s = read-number as_length n s
 numbers v h s = absurd (false≢true h)
 
 all-alphas : Reads alphas is_alpha
-all-alphas (alpha n) h s = read-numeral (λ m. alpha m) n (between 0 1000000 n (omega arith) (omega arith) h)
+all-alphas (alpha n) h s =
+    read-numeral (λ m. alpha m) n (between 0 1000000 n (omega arith) (omega arith) h)
 all-alphas v h s = absurd (false≢true h)
 
 any-integers : Reads integers is_any_integer
@@ -116,9 +117,12 @@ integers-between least greatest v h s = absurd (false≢true h)
 rgba : (f : ℤ → Final) (c : Rgba) → is_rgba c ≡ true
     → read_value f (final_text (color (AnRgba c))) ≡ color (AnRgba c)
 rgba f c h =
-    let red = and_parts (nat_le c.red 255) (nat_le c.green 255 && (nat_le c.blue 255 && (nat_le c.alpha 255 && true))) h in
-    let green = and_parts (nat_le c.green 255) (nat_le c.blue 255 && (nat_le c.alpha 255 && true)) red.1 in
-    let blue = and_parts (nat_le c.blue 255) (nat_le c.alpha 255 && true) green.1 in
+    let rest_alpha : Bool = nat_le c.alpha 255 && true in
+    let rest_blue : Bool = nat_le c.blue 255 && rest_alpha in
+    let rest_green : Bool = nat_le c.green 255 && rest_blue in
+    let red = and_parts (nat_le c.red 255) rest_green h in
+    let green = and_parts (nat_le c.green 255) rest_blue red.1 in
+    let blue = and_parts (nat_le c.blue 255) rest_alpha green.1 in
     let last = and_parts (nat_le c.alpha 255) true blue.1 in
     read-rgba f c (omega (arith, leb-true c.red 255 red.0)) (omega (arith, leb-true c.green 255 green.0))
     (omega (arith, leb-true c.blue 255 blue.0)) (omega (arith, leb-true c.alpha 255 last.0))
@@ -147,17 +151,22 @@ same-named a b ca cb e = absurd (false≢true ca)
 -- ---- all properties
 
 pub values-apart : (p : Prop) → TellsValuesApart p
-values-apart Display = apart units Display (words as_length (Block ∷ Inline ∷ InlineBlock ∷ FlowRoot ∷ NoneKeyword ∷ []))
+values-apart Display = apart units Display
+    (words as_length (Block ∷ Inline ∷ InlineBlock ∷ FlowRoot ∷ NoneKeyword ∷ []))
 values-apart Width = apart units Width (or-words as_length (Auto ∷ []) is_length lengths)
 values-apart Height = apart units Height (or-words as_length (Auto ∷ []) is_length lengths)
 values-apart MinWidth = apart units MinWidth lengths
 values-apart MinHeight = apart units MinHeight lengths
 values-apart MaxWidth = apart units MaxWidth (or-words as_length (NoneKeyword ∷ []) is_length lengths)
 values-apart MaxHeight = apart units MaxHeight (or-words as_length (NoneKeyword ∷ []) is_length lengths)
-values-apart MarginTop = apart units MarginTop (or-words as_length (Auto ∷ []) is_any_length any-lengths)
-values-apart MarginRight = apart units MarginRight (or-words as_length (Auto ∷ []) is_any_length any-lengths)
-values-apart MarginBottom = apart units MarginBottom (or-words as_length (Auto ∷ []) is_any_length any-lengths)
-values-apart MarginLeft = apart units MarginLeft (or-words as_length (Auto ∷ []) is_any_length any-lengths)
+values-apart MarginTop = apart units MarginTop
+    (or-words as_length (Auto ∷ []) is_any_length any-lengths)
+values-apart MarginRight = apart units MarginRight
+    (or-words as_length (Auto ∷ []) is_any_length any-lengths)
+values-apart MarginBottom = apart units MarginBottom
+    (or-words as_length (Auto ∷ []) is_any_length any-lengths)
+values-apart MarginLeft = apart units MarginLeft
+    (or-words as_length (Auto ∷ []) is_any_length any-lengths)
 values-apart PaddingTop = apart units PaddingTop lengths
 values-apart PaddingRight = apart units PaddingRight lengths
 values-apart PaddingBottom = apart units PaddingBottom lengths
@@ -176,7 +185,8 @@ values-apart BorderBottomColor = apart units BorderBottomColor (any-colors as_le
 values-apart BorderLeftColor = apart units BorderLeftColor (any-colors as_length)
 values-apart BoxSizing = apart units BoxSizing (words as_length (ContentBox ∷ BorderBox ∷ []))
 values-apart FontSize = apart units FontSize absolute-lengths
-values-apart LineHeight = apart units LineHeight (or-words as_length (Normal ∷ []) (λ v. is_number v || is_absolute_length v)
+values-apart LineHeight = apart units LineHeight
+    (or-words as_length (Normal ∷ []) (λ v. is_number v || is_absolute_length v)
     (either units is_number is_absolute_length numbers absolute-lengths))
 values-apart Color = apart units Color (colors as_length)
 values-apart BackgroundColor = apart units BackgroundColor (any-colors as_length)
@@ -190,6 +200,8 @@ values-apart Visibility = apart units Visibility (words as_length (Visible ∷ H
 values-apart Opacity = apart alphas Opacity all-alphas
 values-apart FontStyle = apart units FontStyle (words as_length (Normal ∷ Italic ∷ Oblique ∷ []))
 values-apart FontWeight = apart integers FontWeight (integers-between 1 1000)
-values-apart ZIndex = apart integers ZIndex (or-words (λ n. integer n) (Auto ∷ []) is_any_integer any-integers)
-values-apart TextDecorationLine = apart units TextDecorationLine (words as_length (NoneKeyword ∷ Underline ∷ Overline ∷ LineThrough ∷ []))
+values-apart ZIndex = apart integers ZIndex
+    (or-words (λ n. integer n) (Auto ∷ []) is_any_integer any-integers)
+values-apart TextDecorationLine = apart units TextDecorationLine
+    (words as_length (NoneKeyword ∷ Underline ∷ Overline ∷ LineThrough ∷ []))
 values-apart PointerEvents = apart units PointerEvents (words as_length (Auto ∷ NoneKeyword ∷ []))
