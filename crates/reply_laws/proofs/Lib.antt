@@ -1,3 +1,9 @@
+pub mod Numerals
+pub mod Quoted
+pub mod ReadValues
+pub mod ValuesApart
+pub mod OneLine
+pub mod StylesApart
 pub mod AreLogs
 pub mod NewIds
 pub mod StateHasGivenIds

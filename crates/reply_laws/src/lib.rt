@@ -5,3 +5,4 @@ pub mod courses;
 pub mod edits;
 pub mod scripts;
 pub mod turns;
+pub mod value_texts;

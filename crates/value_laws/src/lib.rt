@@ -3,5 +3,6 @@
 //! Above it only `cascade_laws` and the code of the cascade build on this crate.
 #![tactic(auto)]
 
+pub mod computing;
 pub mod properties;
 pub mod shorthands;

@@ -1,0 +1,42 @@
+-- What the text of a computed value tells.
+use Rattle.std.specs.Prelude.{◌≡◌, ℤ, ◌<◌, ◌^◌, unsigned_abs, length as count, map, true, ⊤}
+use Rattle.cascade_model.specs.Defaulting.{Style, value_in}
+use Rattle.reply_model.specs.StyleText.{style_lines}
+use Rattle.reply_model.specs.ValueTexts.{final_text}
+use Rattle.value_model.specs.declared.prop.Prop.{Prop}
+use Rattle.value_model.specs.Lengths.{in_percent}
+use Rattle.value_model.specs.Properties.{properties, property}
+use Rattle.value_model.specs.Values.{Final, number, integer, length}
+use Rattle.value_laws.specs.ComputedForms.{is_computed}
+
+-- a number of at most 64 digits: of a longer one `decimal` writes the last 64, as of many others
+abbrev pub IsShort : ℤ → Type 0
+IsShort n = unsigned_abs n < 10 ^ 64
+
+-- the numbers that `is_computed` does not bound are short; those that are read of CSS are at most
+-- `MAX_MILLIONTHS`, which has 16 digits
+abbrev pub HasShortNumbers : Final → Type 0
+HasShortNumbers (length (in_percent n)) = IsShort n
+HasShortNumbers (number n) = IsShort n
+HasShortNumbers (integer n) = IsShort n
+HasShortNumbers v = ⊤
+
+-- two computed values of one property that have the same text are the same
+abbrev pub TellsValuesApart : Prop → Type 0
+TellsValuesApart p = (a b : Final) → is_computed p a ≡ true → is_computed p b ≡ true
+    → HasShortNumbers a → HasShortNumbers b → final_text a ≡ final_text b → a ≡ b
+
+-- a computed value for each property, in their order
+pub record IsComputedStyle (s : Style) : Type 0 where
+  pub complete : count s ≡ count properties
+  pub computed : (p : Prop) → is_computed p (value_in s p) ≡ true
+  pub short : (p : Prop) → HasShortNumbers (value_in s p)
+
+-- the style of initial values
+abbrev pub initial_style : Style
+initial_style = map (λ p. (property p).initial) properties
+
+-- two styles that have the same lines are the same
+abbrev pub TellsStylesApart : Type 0
+TellsStylesApart =
+    (s t : Style) → IsComputedStyle s → IsComputedStyle t → style_lines s ≡ style_lines t → s ≡ t
