@@ -14,7 +14,7 @@ use Rattle.value_model.specs.Forms.{is_between}
 use Rattle.value_model.specs.Lengths.{ComputedLength, computed_length, in_clamped_units, used_length}
 use Rattle.value_model.specs.Properties.{property}
 use Rattle.value_model.specs.Values.{Value, alpha}
-use Rattle.value_laws.specs.ComputedForms.{is_among, is_one_of, is_absolute_length, is_alpha, is_integer_between, is_computed, NotNegative, is_inherited_color}
+use Rattle.value_laws.specs.ComputedForms.{is_among, is_one_of, is_absolute_length, is_alpha, is_integer_between, is_computed, NotNegative, Computes}
 use Rattle.value_laws.proofs.Lengths.{tested, dimension-from_zero, length-from_zero, any-length, absolute-computed}
 use Rattle.value_laws.proofs.Values.{OfForms}
 
@@ -53,10 +53,6 @@ alpha-computed n = rw (above-zero (int_min (pos 1000000) n), below-one n) refl
 
 -- ---- all properties
 
--- a value of a property that is to be computed
-abbrev pub Computes : Prop → Bases → ℤ → Value → Type 0
-Computes p b parent_font v = is_inherited_color p v ≡ false → is_computed p (computed p v b parent_font) ≡ true
-
 first : (a b : Bool) → a ≡ true → (a || b) ≡ true
 first true b h = refl
 first false b h = (cc)
@@ -66,7 +62,7 @@ flipped true h = (cc)
 flipped false h = refl
 
 pub computes-forms : (p : Prop) (b : Bases) (parent_font : ℤ) → NotNegative b
-    → OfForms (property p).forms (Computes p b parent_font)
+    → OfForms (property p).forms (Computes b parent_font p)
 computes-forms Display b parent_font h = (λ k m _. m, tt)
 computes-forms Width b parent_font h = (λ k m _. first _ false m, (λ l m _. length-from_zero b l h m, tt))
 computes-forms Height b parent_font h = (λ k m _. first _ false m, (λ l m _. length-from_zero b l h m, tt))

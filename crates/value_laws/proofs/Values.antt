@@ -196,7 +196,7 @@ abbrev pub OfForms : List Form → (Value → Type 0) → Type 0
 OfForms [] P = Unit {0}
 OfForms (form ∷ forms) P = OfForm form P × OfForms forms P
 
-of-forms : (forms : List Form) (P : Value → Type 0) → OfForms forms P → (words : List Component)
+pub of-forms : (forms : List Form) (P : Value → Type 0) → OfForms forms P → (words : List Component)
     → IfSome (value_of_forms forms words) P
 of-forms [] P h words = tt
 of-forms (form ∷ forms) P h words =
