@@ -1,14 +1,16 @@
 //! Computed values, and the properties that have them: functions that do nothing, whose clauses the
 //! prover computes.
 ghost use Rattle.std.specs.Prelude.{codes, negsuc, pos, ◌++◌, ◌≡◌, ◌∷◌, false, true, []};
-ghost use Rattle.value_laws.specs.ComputedForms.{is_computed};
-ghost use Rattle.value_laws.specs.inner.Examples.{border_colors, border_styles, margins, negative_bases, padding_of, percent, properties_with, rgba_color, units, with_colors, with_lengths, with_percentages};
+ghost use Rattle.value_laws.specs.ComputedForms.{NotNegative, is_computed};
+ghost use Rattle.value_laws.specs.inner.Examples.{border_colors, border_styles, margins, no_bases, not_computed, padding_of, percent, properties_with, rgba_color, units, with_colors, with_lengths, with_percentages};
+ghost use Rattle.value_model.specs.Colors.{rgba};
 ghost use Rattle.value_model.specs.Forms.{contained};
-ghost use Rattle.value_model.specs.Values.{alpha, color, containment, integer, keyword, names, number};
-ghost use Rattle.value_model.specs.declared.color.Color.TheVariants.{CurrentColor};
+ghost use Rattle.value_model.specs.Values.{alpha, color, color_value, containment, integer, keyword, keyword_value, names, number, wide_keyword};
+ghost use Rattle.value_model.specs.declared.color.Color.TheVariants.{CurrentColor, Rgba};
 ghost use Rattle.value_model.specs.declared.keyword.Keyword.TheVariants.{Auto, Block, Bold, BorderBox, Center, Collapse, ContentBox, Dashed, Dotted, Double, End, FlowRoot, Groove, Hidden, Inline, InlineBlock, InlineSize, Inset, Italic, Left, LineThrough, Medium, None as NoneKeyword, Normal, Nowrap, Oblique, Outset, Overline, Ridge, Right, Scroll, Size, Solid, Start, Thick, Thin, Underline, Visible};
 ghost use Rattle.value_model.specs.declared.length_unit.LengthBase.TheVariants.{Cqh, Cqmax, Cqmin, Cqw, Em, Pixel, Rem, Vh, Vmax, Vmin, Vw};
-ghost use Rattle.value_model.specs.declared.prop.Prop.TheVariants.{BackgroundColor, BoxSizing, Contain, ContainerName, ContainerType, Display, FontStyle, FontWeight, Height, LineHeight, MaxHeight, MaxWidth, Opacity, Overflow, PaddingTop, PointerEvents, TextAlign, TextDecorationLine, Visibility, WhiteSpace, Width, ZIndex};
+ghost use Rattle.value_model.specs.declared.prop.Prop.TheVariants.{BackgroundColor, BoxSizing, Color, Contain, ContainerName, ContainerType, Display, FontStyle, FontWeight, Height, LineHeight, MaxHeight, MaxWidth, Opacity, Overflow, PaddingTop, PointerEvents, TextAlign, TextDecorationLine, Visibility, WhiteSpace, Width, ZIndex};
+ghost use Rattle.value_model.specs.declared.wide_keyword.WideKeyword.TheVariants.{Inherit};
 
 /// Keywords of boxes.
 pub fn keywords_of_boxes()
@@ -127,6 +129,19 @@ pub fn container_names()
     ensures not_none { properties_with (names (codes "none" ∷ [])) ≡ [] }
     ensures not_in_capitals { properties_with (names (codes "NOT" ∷ [])) ≡ [] }
     ensures not_at_the_end { properties_with (names (codes "card" ∷ codes "revert-layer" ∷ [])) ≡ [] }
+{}
+
+/// What is not computed: `currentcolor` for `color` alone.
+pub fn inherited_colors()
+    ensures current { not_computed (color_value CurrentColor) ≡ Color ∷ [] }
+    ensures black { not_computed (color_value (Rgba (rgba 0 0 0 255))) ≡ [] }
+    ensures inherit { not_computed (wide_keyword Inherit) ≡ [] }
+    ensures auto { not_computed (keyword_value Auto) ≡ [] }
+{}
+
+/// Bases that are 0 are not negative.
+pub fn bases_of_zero()
+    ensures { NotNegative no_bases }
 {}
 
 /// Where a base is below 0, a positive length may compute to one that a padding may not have.

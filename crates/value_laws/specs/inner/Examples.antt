@@ -9,12 +9,16 @@ use Rattle.value_model.specs.Colors.{rgba}
 use Rattle.value_model.specs.Computing.{computed}
 use Rattle.value_model.specs.Lengths.{in_units, in_percent, dimension, unit}
 use Rattle.value_model.specs.Properties.{properties}
-use Rattle.value_model.specs.Values.{length_value, Final, length, color}
-use Rattle.value_laws.specs.ComputedForms.{is_computed}
+use Rattle.value_model.specs.Values.{Value, length_value, Final, length, color}
+use Rattle.value_laws.specs.ComputedForms.{is_computed, is_inherited_color}
 
 -- the properties that have this computed value
 abbrev pub properties_with : Final → List Prop
 properties_with v = filter (λ p. is_computed p v) properties
+
+-- the properties for which this value is not computed
+abbrev pub not_computed : Value → List Prop
+not_computed v = filter (λ p. is_inherited_color p v) properties
 
 -- ---- groups of properties
 
@@ -55,6 +59,10 @@ percent millionths = length (in_percent millionths)
 
 abbrev pub rgba_color : ℕ → ℕ → ℕ → ℕ → Final
 rgba_color red green blue alpha = color (AnRgba (rgba red green blue alpha))
+
+-- bases that are all 0
+abbrev pub no_bases : Bases
+no_bases = record { em = pos 0; rem = pos 0; vw = pos 0; vh = pos 0; cqw = pos 0; cqh = pos 0 }
 
 -- bases below 0
 abbrev pub negative_bases : Bases
