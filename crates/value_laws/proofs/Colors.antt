@@ -1,5 +1,5 @@
 -- The parts of a colour are from 0 to 255.
-use Rattle.std.proofs.Common.{◌≡◌, refl, ℕ, ◌+◌, ◌*◌, ◌-◌, ◌≤◌, ◌&&◌, nat_le, List, [], ◌∷◌, Bool, true, false, inl, inr, arith}
+use Rattle.std.proofs.Common.{◌≡◌, refl, ℕ, ◌+◌, ◌*◌, ◌≤◌, ◌&&◌, nat_le, [], ◌∷◌, Bool, true, false, arith}
 use Rattle.std.specs.Prelude.{Option, Some, None, IfSome, option_map}
 use Rattle.std.specs.List.{list_all}
 use Rattle.std.specs.Map.{lookup}
@@ -15,7 +15,7 @@ use Rattle.value_model.specs.declared.color.Color.TheVariants.{CurrentColor, Rgb
 use Rattle.value_model.specs.declared.color.Rgba.{Rgba}
 use Rattle.value_model.specs.Colors.{rgba, of_one, of_two, rgba_of_digits, rgba_of_hex, rgba_of_name, color_names, color_of_type, color_of}
 use Rattle.value_laws.specs.ComputedForms.{is_rgba}
-use Rattle.value_laws.proofs.Found.{if-all, if-map, if-then, if-either}
+use Rattle.value_laws.proofs.Found.{if-all, if-then, if-either}
 use Rattle.std.specs.Prelude.{codes}
 
 digit-at_most : (d : ℕ) → is_hex_digit d ≡ true → hex_digit_value d ≤ 15

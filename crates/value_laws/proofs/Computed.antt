@@ -1,19 +1,17 @@
 -- What a property's grammar takes computes to one of the property's computed values.
-use Rattle.std.proofs.Common.{◌≡◌, refl, ◌||◌, ◌&&◌, not, List, [], ◌∷◌, Bool, true, false, arith}
+use Rattle.std.proofs.Common.{◌≡◌, refl, ◌||◌, not, [], ◌∷◌, Bool, true, false, arith}
 use Rattle.std.specs.Prelude.{ℤ, pos, int_le, ◌≤ℤ◌}
 use Rattle.std.specs.Int.{int_min, int_max}
 use Rattle.std.proofs.lemmas.Int.{ints, clamps}
-use Rattle.value_model.specs.declared.color.Color.TheVariants.{CurrentColor, Rgba as AnRgba}
 use Rattle.value_model.specs.declared.keyword.Keyword.{Keyword}
 use Rattle.value_model.specs.declared.keyword.Keyword.TheVariants.{Thin, Medium, Thick, Bold, Left, Right, Center, Start, End}
 use Rattle.value_model.specs.declared.length_unit.Bases.{Bases}
 use Rattle.value_model.specs.declared.prop.Prop.{Prop}
 use Rattle.value_model.specs.declared.prop.Prop.TheVariants.{Display, Width, Height, MinWidth, MinHeight, MaxWidth, MaxHeight, MarginTop, MarginRight, MarginBottom, MarginLeft, PaddingTop, PaddingRight, PaddingBottom, PaddingLeft, BorderTopWidth, BorderRightWidth, BorderBottomWidth, BorderLeftWidth, BorderTopStyle, BorderRightStyle, BorderBottomStyle, BorderLeftStyle, BorderTopColor, BorderRightColor, BorderBottomColor, BorderLeftColor, BoxSizing, FontSize, LineHeight, Color, BackgroundColor, TextAlign, WhiteSpace, Overflow, Contain, ContainerType, ContainerName, Visibility, Opacity, FontStyle, FontWeight, ZIndex, TextDecorationLine, PointerEvents}
-use Rattle.value_model.specs.Computing.{computed, border_width, alignment, weight, absolute_length}
-use Rattle.value_model.specs.Forms.{is_between}
-use Rattle.value_model.specs.Lengths.{ComputedLength, computed_length, in_clamped_units, used_length}
+use Rattle.value_model.specs.Computing.{border_width, alignment, weight}
+use Rattle.value_model.specs.Lengths.{computed_length}
 use Rattle.value_model.specs.Properties.{property}
-use Rattle.value_model.specs.Values.{Value, alpha}
+use Rattle.value_model.specs.Values.{alpha}
 use Rattle.value_laws.specs.ComputedForms.{is_among, is_one_of, is_absolute_length, is_alpha, is_integer_between, is_computed, NotNegative, Computes}
 use Rattle.value_laws.proofs.Lengths.{tested, dimension-from_zero, length-from_zero, any-length, absolute-computed}
 use Rattle.value_laws.proofs.Values.{OfForms}

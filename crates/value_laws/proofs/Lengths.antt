@@ -1,9 +1,8 @@
 -- Lengths compute to lengths that fit, and those that are not negative to lengths that are not negative.
-use Rattle.std.proofs.Common.{◌≡◌, refl, ℕ, ◌*◌, ◌/◌, ◌<◌, ◌≤◌, Bool, true, false, inl, inr, arith}
+use Rattle.std.proofs.Common.{◌≡◌, refl, ℕ, ◌*◌, ◌/◌, true, false, arith}
 use Rattle.std.specs.Prelude.{ℤ, pos, negsuc, ◌*ℤ◌, neg_ℤ, ◌≤ℤ◌, int_le, int_lt, int_div}
 use Rattle.std.specs.Int.{int_min, int_max}
 use Rattle.std.proofs.lemmas.Int.{ints, clamps}
-use Rattle.std.proofs.Math.IntN.{pos-*ℤ-pos}
 use Rattle.units64.specs.Conversions.{millionths_of, units_of}
 use Rattle.units64.specs.Limits.{clamped_millionths, clamped_units}
 use Rattle.units64.specs.declared.constants.TheConstants.{UNITS_PER_PIXEL, MILLIONTHS_PER_PIXEL, MILLIONTHS_PER_UNIT, MAX_UNITS, MAX_MILLIONTHS}
@@ -95,10 +94,10 @@ of-dimension : (b : Bases) (n : ℤ) (u : LengthUnit) → NotNegative b → pos 
 of-dimension b n u h k =
     let base : ℤ = base_length b u.base in
     let above : pos 0 ≤ℤ (n *ℤ pos u.numerator *ℤ millionths_of base) =
-        of-product (n *ℤ pos u.numerator) (millionths_of base) (of-product n (pos u.numerator) k (natural _))
-        (of-product base MILLIONTHS_PER_UNIT (base-from_zero b h u.base) (natural _)) in
+    of-product (n *ℤ pos u.numerator) (millionths_of base) (of-product n (pos u.numerator) k (natural _))
+    (of-product base MILLIONTHS_PER_UNIT (base-from_zero b h u.base) (natural _)) in
     let below : pos 0 ≤ℤ (pos u.denominator *ℤ MILLIONTHS_PER_PIXEL) =
-        of-product (pos u.denominator) MILLIONTHS_PER_PIXEL (natural _) (natural _) in
+    of-product (pos u.denominator) MILLIONTHS_PER_PIXEL (natural _) (natural _) in
     clamped-number (int_div (n *ℤ pos u.numerator *ℤ millionths_of base) (pos u.denominator *ℤ MILLIONTHS_PER_PIXEL))
     (of-quotient (n *ℤ pos u.numerator *ℤ millionths_of base) (pos u.denominator *ℤ MILLIONTHS_PER_PIXEL) above below)
 

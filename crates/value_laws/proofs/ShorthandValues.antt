@@ -3,14 +3,13 @@ use Rattle.std.proofs.Common.{◌≡◌, refl, List, [], ◌∷◌, map, Bool, t
 use Rattle.std.specs.Prelude.{ℤ, Option, Some, None, IfSome, option_map, option_and_then, unwrap_or, is_some}
 use Rattle.std.specs.List.{All, AllByRecursion}
 use Rattle.std.specs.Map.{lookup}
-use Rattle.std.specs.Option.{option_or}
 use Rattle.std.specs.Str.{str_eq_ignore_ascii_case}
 use Rattle.std.proofs.lemmas.Option.{IfSome_then}
 use Rattle.std.proofs.lemmas.List.Elements.{All-nil, All-cons}
 use Rattle.css_model.specs.Classes.{Text}
 use Rattle.css_model.specs.Components.{Component, Components}
 use Rattle.value_model.specs.declared.color.Color.TheVariants.{CurrentColor}
-use Rattle.value_model.specs.declared.keyword.Keyword.TheVariants.{None as NoneKeyword, Medium, Normal}
+use Rattle.value_model.specs.declared.keyword.Keyword.TheVariants.{None as NoneKeyword, Medium}
 use Rattle.value_model.specs.declared.length_unit.Bases.{Bases}
 use Rattle.value_model.specs.declared.prop.Prop.{Prop}
 use Rattle.value_model.specs.declared.prop.Prop.TheVariants.{BorderTopWidth, BorderTopStyle, BorderTopColor, BackgroundColor, ContainerName, ContainerType}
@@ -157,11 +156,11 @@ values-of : (b : Bases) (f : ℤ) (sides : List Border) → AllByRecursion (AsTo
 values-of b f [] h parts k = nothing b f
 values-of b f (side ∷ sides) h parts k =
     let width : Computes b f side.width (width-in parts) =
-        h.0.width (width-in parts) (or-initial (Computes b f BorderTopWidth) parts.width (keyword_value Medium) k.width (λ _. refl)) in
+    h.0.width (width-in parts) (or-initial (Computes b f BorderTopWidth) parts.width (keyword_value Medium) k.width (λ _. refl)) in
     let style : Computes b f side.style (style-in parts) =
-        h.0.style (style-in parts) (or-initial (Computes b f BorderTopStyle) parts.style (keyword_value NoneKeyword) k.style (λ _. refl)) in
+    h.0.style (style-in parts) (or-initial (Computes b f BorderTopStyle) parts.style (keyword_value NoneKeyword) k.style (λ _. refl)) in
     let color : Computes b f side.color (color-in parts) =
-        h.0.color (color-in parts) (or-initial (Computes b f BorderTopColor) parts.color (color_value CurrentColor) k.color (λ _. refl)) in
+    h.0.color (color-in parts) (or-initial (Computes b f BorderTopColor) parts.color (color_value CurrentColor) k.color (λ _. refl)) in
     let colored : List Longhand = (side.color, color-in parts) ∷ border_values sides parts in
     let styled : List Longhand = (side.style, style-in parts) ∷ colored in
     one-more b f side.width (width-in parts) styled width
@@ -242,11 +241,37 @@ in-table P test [] h = tt
 in-table P test (e ∷ es) h = if-either (test e.0) P (Some e.1) (lookup test es) (λ _. h.0) (λ _. in-table P test es h.1)
 
 table-borders : (b : Bases) (f : ℤ) → AllByRecursion (λ e. HasBorders b f e.1) shorthands
-table-borders b f =
-    (tt, (tt, (tt, (tt, (tt,
-    ((top-as_top b f, (right-as_top b f, (bottom-as_top b f, (left-as_top b f, tt)))),
-    ((top-as_top b f, tt), ((right-as_top b f, tt), ((bottom-as_top b f, tt), ((left-as_top b f, tt),
-    (tt, (tt, (tt, (tt, (tt, (tt, (tt, tt)))))))))))))))))
+table-borders b f = (
+  tt,
+  (
+    tt,
+    (
+      tt,
+      (
+        tt,
+        (
+          tt,
+          (
+            (top-as_top b f, (right-as_top b f, (bottom-as_top b f, (left-as_top b f, tt)))),
+            (
+              (top-as_top b f, tt),
+              (
+                (right-as_top b f, tt),
+                (
+                  (bottom-as_top b f, tt),
+                  (
+                    (left-as_top b f, tt),
+                    (tt, (tt, (tt, (tt, (tt, (tt, (tt, tt))))))),
+                  ),
+                ),
+              ),
+            ),
+          ),
+        ),
+      ),
+    ),
+  ),
+)
 
 pub shorthand-computes : (b : Bases) (f : ℤ) → NotNegative b → (name : Text) (s : Shorthand) → shorthand_of_name name ≡ Some s
     → (cs : Components) → IfSome (expansion_of s cs) (AllCompute b f)

@@ -1,16 +1,15 @@
 -- What holds of each value of a form holds of the value of component values (CSS Values 4, section 2).
-use Rattle.std.proofs.Common.{◌≡◌, refl, ℕ, ◌&&◌, ◌||◌, List, [], ◌∷◌, Bool, true, false, inl, inr, if◌then◌else◌}
-use Rattle.std.specs.Prelude.{ℤ, pos, codes, int_le, int_lt, Option, Some, None, IfSome, option_map, option_and_then}
-use Rattle.std.specs.List.{find, list_any, list_all}
+use Rattle.std.proofs.Common.{◌≡◌, refl, ◌&&◌, ◌||◌, List, [], ◌∷◌, Bool, true, false, inl, inr}
+use Rattle.std.specs.Prelude.{ℤ, pos, codes, int_le, int_lt, Option, Some, None, IfSome, option_map}
+use Rattle.std.specs.List.{find, list_all}
 use Rattle.std.specs.Map.{lookup}
 use Rattle.std.specs.Ordering.{int_eq}
 use Rattle.std.specs.Str.{bytes_eq, str_eq_ignore_ascii_case}
-use Rattle.std.proofs.lemmas.Bool.{cases_Bool, not-false}
+use Rattle.std.proofs.lemmas.Bool.{cases_Bool}
 use Rattle.std.proofs.lemmas.Option.{IfSome_then}
 use Rattle.std.proofs.lemmas.Slice.Eq.{bytes_eq-Decides}
-use Rattle.css_model.specs.declared.token.Number.{Number as NumberValue}
 use Rattle.css_model.specs.declared.token.TokenType.{TokenType}
-use Rattle.css_model.specs.declared.token.TokenType.TheVariants.{Number, Percentage, Dimension}
+use Rattle.css_model.specs.declared.token.TokenType.TheVariants.{Number, Dimension}
 use Rattle.css_model.specs.Classes.{Text}
 use Rattle.css_model.specs.Components.{Component, Components, preserved}
 use Rattle.rules_model.specs.ComponentLists.{ident_of}
@@ -23,16 +22,16 @@ use Rattle.value_model.specs.declared.length_unit.LengthUnit.{LengthUnit}
 use Rattle.value_model.specs.declared.prop.Prop.{Prop}
 use Rattle.value_model.specs.declared.wide_keyword.WideKeyword.{WideKeyword}
 use Rattle.value_model.specs.Colors.{color_of}
-use Rattle.value_model.specs.Forms.{Form, one_of, a_length, a_length_or_percentage, any_length_or_percentage, a_number, any_number, an_integer_between, any_integer, a_color, a_containment, container_names, keyword_among, not_negative, number_of, integer_of, is_between, contained, unless, with_containment, containment_of_words, whole_containments, whole_containment, containment_of, no_container_names, container_name_of, in_front, names_of, is_none_alone, container_names_of, value_of_one, value_of_form}
+use Rattle.value_model.specs.Forms.{Form, one_of, a_length, a_length_or_percentage, any_length_or_percentage, a_number, any_number, an_integer_between, any_integer, a_color, a_containment, container_names, keyword_among, not_negative, number_of, integer_of, is_between, unless, with_containment, containment_of_words, whole_containments, whole_containment, containment_of, container_name_of, in_front, names_of, is_none_alone, container_names_of, value_of_one, value_of_form}
 use Rattle.value_model.specs.Grammar.{value_of_forms, value_of, wide_keyword_of, own_value_of}
 use Rattle.value_model.specs.Keywords.{keyword_text}
-use Rattle.value_model.specs.Lengths.{Length, dimension, percentage, is_negative, length_of_type, length_of, length_or_percentage_of, unit, unit_of}
+use Rattle.value_model.specs.Lengths.{Length, dimension, is_negative, length_of_type, length_of, length_or_percentage_of, unit, unit_of}
 use Rattle.value_model.specs.Properties.{property}
 use Rattle.value_model.specs.Values.{Value, wide_keyword, keyword_value, length_value, number_value, integer_value, color_value, containment_value, names_value}
 use Rattle.value_model.specs.Words.{words_of}
 use Rattle.value_laws.specs.ComputedForms.{is_among, is_rgba, is_container_name}
 use Rattle.value_laws.proofs.Colors.{if-color}
-use Rattle.value_laws.proofs.Found.{if-all, if-map, if-then, if-or, if-test, if-either, from-if}
+use Rattle.value_laws.proofs.Found.{if-all, if-map, if-then, if-or, if-test, if-either}
 
 -- ---- one form
 
@@ -65,15 +64,15 @@ found-among test [] = tt
 found-among test (k ∷ ks) = elim (cases_Bool (test k)) [
   | inl met ↦ rw met (first-among k ks)
   | inr unmet ↦ rw unmet (IfSome_then (find test ks) (found-among test ks)
-    (λ j h. or-true (bytes_eq (keyword_text k) (keyword_text j)) (is_among ks j) h))
+      (λ j h. or-true (bytes_eq (keyword_text k) (keyword_text j)) (is_among ks j) h))
 ]
 
 if-keyword : (keywords : List Keyword) (P : Keyword → Type 0) → ((k : Keyword) → is_among keywords k ≡ true → P k)
     → (c : Component) → IfSome (keyword_among keywords c) P
 if-keyword keywords P h c =
     let named : (name : Text) → IfSome (find (λ k. str_eq_ignore_ascii_case name (keyword_text k)) keywords) P =
-        λ name. IfSome_then (find (λ k. str_eq_ignore_ascii_case name (keyword_text k)) keywords)
-        (found-among (λ k. str_eq_ignore_ascii_case name (keyword_text k)) keywords) h in
+    λ name. IfSome_then (find (λ k. str_eq_ignore_ascii_case name (keyword_text k)) keywords)
+    (found-among (λ k. str_eq_ignore_ascii_case name (keyword_text k)) keywords) h in
     if-then (λ name. find (λ k. str_eq_ignore_ascii_case name (keyword_text k)) keywords) P (ident_of c)
     (if-all (λ name. IfSome (find (λ k. str_eq_ignore_ascii_case name (keyword_text k)) keywords) P) (ident_of c) named)
 

@@ -7,7 +7,6 @@ use Rattle.units64.specs.declared.constants.TheConstants.{MAX_UNITS}
 use Rattle.css_model.specs.Classes.{Text}
 use Rattle.value_model.specs.declared.color.Color.TheVariants.{CurrentColor, Rgba as AnRgba}
 use Rattle.value_model.specs.declared.color.Rgba.{Rgba}
-use Rattle.value_model.specs.declared.containment.Containment.{Containment}
 use Rattle.value_model.specs.declared.keyword.Keyword.{Keyword}
 use Rattle.value_model.specs.declared.keyword.Keyword.TheVariants.{Auto, None as NoneKeyword, Block, Inline, InlineBlock, FlowRoot, Hidden, ContentBox, BorderBox, Normal, Left, Right, Center, Nowrap, Visible, Scroll, InlineSize, Size, Collapse, Italic, Oblique, Underline, Overline, LineThrough}
 use Rattle.value_model.specs.declared.length_unit.Bases.{Bases}

@@ -1,5 +1,5 @@
 -- Words of the examples: groups of properties.
-use Rattle.std.specs.Prelude.{ℕ, ℤ, pos, negsuc, List, [], ◌∷◌, ◌++◌, filter, Bool}
+use Rattle.std.specs.Prelude.{ℕ, ℤ, pos, negsuc, List, [], ◌∷◌, ◌++◌, filter}
 use Rattle.value_model.specs.declared.color.Color.TheVariants.{Rgba as AnRgba}
 use Rattle.value_model.specs.declared.length_unit.Bases.{Bases}
 use Rattle.value_model.specs.declared.length_unit.LengthBase.{LengthBase}
