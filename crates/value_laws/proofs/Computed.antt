@@ -18,7 +18,8 @@ use Rattle.value_laws.proofs.Values.{OfForms}
 
 -- ---- what computes to something else
 
-width-computed : (k : Keyword) → is_among (Thin ∷ Medium ∷ Thick ∷ []) k ≡ true → is_absolute_length (border_width k) ≡ true
+width-computed : (k : Keyword) → is_among (Thin ∷ Medium ∷ Thick ∷ []) k ≡ true
+    → is_absolute_length (border_width k) ≡ true
 width-computed Thin h = refl
 width-computed Medium h = refl
 width-computed Thick h = refl
@@ -62,15 +63,20 @@ flipped false h = refl
 pub computes-forms : (p : Prop) (b : Bases) (parent_font : ℤ) → NotNegative b
     → OfForms (property p).forms (Computes b parent_font p)
 computes-forms Display b parent_font h = (λ k m _. m, tt)
-computes-forms Width b parent_font h = (λ k m _. first _ false m, (λ l m _. length-from_zero b l h m, tt))
-computes-forms Height b parent_font h = (λ k m _. first _ false m, (λ l m _. length-from_zero b l h m, tt))
+computes-forms Width b parent_font h =
+    (λ k m _. first _ false m, (λ l m _. length-from_zero b l h m, tt))
+computes-forms Height b parent_font h =
+    (λ k m _. first _ false m, (λ l m _. length-from_zero b l h m, tt))
 computes-forms MinWidth b parent_font h = (λ k m _. refl, (λ l m _. length-from_zero b l h m, tt))
 computes-forms MinHeight b parent_font h = (λ k m _. refl, (λ l m _. length-from_zero b l h m, tt))
-computes-forms MaxWidth b parent_font h = (λ k m _. first _ false m, (λ l m _. length-from_zero b l h m, tt))
-computes-forms MaxHeight b parent_font h = (λ k m _. first _ false m, (λ l m _. length-from_zero b l h m, tt))
+computes-forms MaxWidth b parent_font h =
+    (λ k m _. first _ false m, (λ l m _. length-from_zero b l h m, tt))
+computes-forms MaxHeight b parent_font h =
+    (λ k m _. first _ false m, (λ l m _. length-from_zero b l h m, tt))
 computes-forms MarginTop b parent_font h = (λ k m _. first _ false m, (λ l _. any-length b l, tt))
 computes-forms MarginRight b parent_font h = (λ k m _. first _ false m, (λ l _. any-length b l, tt))
-computes-forms MarginBottom b parent_font h = (λ k m _. first _ false m, (λ l _. any-length b l, tt))
+computes-forms MarginBottom b parent_font h =
+    (λ k m _. first _ false m, (λ l _. any-length b l, tt))
 computes-forms MarginLeft b parent_font h = (λ k m _. first _ false m, (λ l _. any-length b l, tt))
 computes-forms PaddingTop b parent_font h = (λ l m _. length-from_zero b l h m, tt)
 computes-forms PaddingRight b parent_font h = (λ l m _. length-from_zero b l h m, tt)
@@ -93,9 +99,12 @@ computes-forms BorderRightColor b parent_font h = ((λ _. refl, λ c m _. m), tt
 computes-forms BorderBottomColor b parent_font h = ((λ _. refl, λ c m _. m), tt)
 computes-forms BorderLeftColor b parent_font h = ((λ _. refl, λ c m _. m), tt)
 computes-forms BoxSizing b parent_font h = (λ k m _. m, tt)
-computes-forms FontSize b parent_font h = (λ k m _. refl, (λ l m _. absolute-computed parent_font (computed_length b l), tt))
-computes-forms LineHeight b parent_font h =
-    (λ k m _. first _ false m, (λ n m _. first _ false m, (λ l m _. absolute-computed b.em (computed_length b l), tt)))
+computes-forms FontSize b parent_font h =
+    (λ k m _. refl, (λ l m _. absolute-computed parent_font (computed_length b l), tt))
+computes-forms LineHeight b parent_font h = (
+  λ k m _. first _ false m,
+  (λ n m _. first _ false m, (λ l m _. absolute-computed b.em (computed_length b l), tt)),
+)
 computes-forms Color b parent_font h = ((λ n. (cc), λ c m _. m), tt)
 computes-forms BackgroundColor b parent_font h = ((λ _. refl, λ c m _. m), tt)
 computes-forms TextAlign b parent_font h = (λ k m _. alignment-computed k m, tt)

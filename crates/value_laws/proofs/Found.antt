@@ -19,7 +19,8 @@ pub if-then : {X Y : Type 0} (f : X → Option Y) (P : Y → Type 0) (o : Option
 if-then f P None h = tt
 if-then f P (Some x) h = h
 
-pub if-or : {X : Type 0} (P : X → Type 0) (o p : Option X) → IfSome o P → IfSome p P → IfSome (option_or o p) P
+pub if-or : {X : Type 0} (P : X → Type 0) (o p : Option X) → IfSome o P → IfSome p P
+    → IfSome (option_or o p) P
 if-or P None p h k = k
 if-or P (Some x) p h k = h
 

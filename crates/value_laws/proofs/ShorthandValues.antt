@@ -33,7 +33,8 @@ AllCompute b f ls = All (λ l. Computes b f l.0 l.1) ls
 nothing : (b : Bases) (f : ℤ) → AllCompute b f []
 nothing b f = All-nil (λ l. Computes b f l.0 l.1)
 
-one-more : (b : Bases) (f : ℤ) (p : Prop) (v : Value) (ls : List Longhand) → Computes b f p v → AllCompute b f ls
+one-more : (b : Bases) (f : ℤ) (p : Prop) (v : Value) (ls : List Longhand) → Computes b f p v
+    → AllCompute b f ls
     → AllCompute b f ((p, v) ∷ ls)
 one-more b f p v ls h k = All-cons (λ l. Computes b f l.0 l.1) (p, v) ls h k
 
@@ -57,15 +58,18 @@ last-of b f p o h = front-of b f p o (Some []) h (nothing b f)
 two-of : (b : Bases) (f : ℤ) → NotNegative b → (p q : Prop) (w x : Component)
     → IfSome (Shorthands.each_of_two_values p q w x) (AllCompute b f)
 two-of b f n p q w x =
-    front-of b f p (own_value_of p (w ∷ [])) (in_front (longhand q x) (Some [])) (own b f n p (w ∷ []))
+    front-of b f p (own_value_of p (w ∷ [])) (in_front (longhand q x) (Some []))
+    (own b f n p (w ∷ []))
     (last-of b f q (own_value_of q (x ∷ [])) (own b f n q (x ∷ [])))
 
 four-of : (b : Bases) (f : ℤ) → NotNegative b → (p q r s : Prop) (w x y z : Component)
     → IfSome (Shorthands.each_of_four_values p q r s w x y z) (AllCompute b f)
 four-of b f n p q r s w x y z =
-    front-of b f p (own_value_of p (w ∷ [])) (in_front (longhand q x) (in_front (longhand r y) (in_front (longhand s z) (Some []))))
+    front-of b f p (own_value_of p (w ∷ []))
+    (in_front (longhand q x) (in_front (longhand r y) (in_front (longhand s z) (Some []))))
     (own b f n p (w ∷ []))
-    (front-of b f q (own_value_of q (x ∷ [])) (in_front (longhand r y) (in_front (longhand s z) (Some [])))
+    (front-of b f q (own_value_of q (x ∷ []))
+    (in_front (longhand r y) (in_front (longhand s z) (Some [])))
     (own b f n q (x ∷ [])) (two-of b f n r s y z))
 
 each-two : (b : Bases) (f : ℤ) → NotNegative b → (p q : Prop) (words : List Component)
@@ -92,26 +96,31 @@ record PartsCompute (b : Bases) (f : ℤ) (parts : BorderParts) : Type 0 where
   style : IfSome parts.style (Computes b f BorderTopStyle)
   color : IfSome parts.color (Computes b f BorderTopColor)
 
-unless-there : {X : Type 0} (P : X → Type 0) (there : Bool) (x : X) → P x → IfSome (unless there x) P
+unless-there : {X : Type 0} (P : X → Type 0) (there : Bool) (x : X) → P x
+    → IfSome (unless there x) P
 unless-there P true x h = tt
 unless-there P false x h = h
 
 -- what this adds to parts that compute gives such parts
 abbrev Adds : Bases → ℤ → (BorderParts → Option BorderParts) → Type 0
-Adds b f add = (parts : BorderParts) → PartsCompute b f parts → IfSome (add parts) (PartsCompute b f)
+Adds b f add = (parts : BorderParts) → PartsCompute b f parts → IfSome (add parts)
+    (PartsCompute b f)
 
 part-of : (b : Bases) (f : ℤ) → NotNegative b → (c : Component) → IfSome (border_part c) (Adds b f)
 part-of b f n c =
     if-or (Adds b f) (option_map with_width (own_value_of BorderTopWidth (c ∷ []))) _
     (if-map with_width (Adds b f) (own_value_of BorderTopWidth (c ∷ []))
-    (with-part BorderTopWidth with_width (λ v h parts k. unless-there (PartsCompute b f) (is_some parts.width) _
+    (with-part BorderTopWidth with_width
+    (λ v h parts k. unless-there (PartsCompute b f) (is_some parts.width) _
     (record { width = h; style = k.style; color = k.color }))))
     (if-or (Adds b f) (option_map with_style (own_value_of BorderTopStyle (c ∷ []))) _
     (if-map with_style (Adds b f) (own_value_of BorderTopStyle (c ∷ []))
-    (with-part BorderTopStyle with_style (λ v h parts k. unless-there (PartsCompute b f) (is_some parts.style) _
+    (with-part BorderTopStyle with_style
+    (λ v h parts k. unless-there (PartsCompute b f) (is_some parts.style) _
     (record { width = k.width; style = h; color = k.color }))))
     (if-map with_color (Adds b f) (own_value_of BorderTopColor (c ∷ []))
-    (with-part BorderTopColor with_color (λ v h parts k. unless-there (PartsCompute b f) (is_some parts.color) _
+    (with-part BorderTopColor with_color
+    (λ v h parts k. unless-there (PartsCompute b f) (is_some parts.color) _
     (record { width = k.width; style = k.style; color = h })))))
   where
     with-part : (p : Prop) (with : Value → BorderParts → Option BorderParts)
@@ -119,7 +128,8 @@ part-of b f n c =
         → IfSome (own_value_of p (c ∷ [])) (λ v. Adds b f (with v))
     with-part p with h = IfSome_then (own_value_of p (c ∷ [])) (own b f n p (c ∷ [])) h
 
-parts-of : (b : Bases) (f : ℤ) → NotNegative b → (words : List Component) → IfSome (border_parts words) (PartsCompute b f)
+parts-of : (b : Bases) (f : ℤ) → NotNegative b → (words : List Component)
+    → IfSome (border_parts words) (PartsCompute b f)
 parts-of b f n [] = record { width = tt; style = tt; color = tt }
 parts-of b f n (c ∷ cs) =
     if-then (λ add. option_and_then add (border_parts cs)) (PartsCompute b f) (border_part c)
@@ -138,7 +148,8 @@ pub record AsTop (b : Bases) (f : ℤ) (side : Border) : Type 0 where
   style : (v : Value) → Computes b f BorderTopStyle v → Computes b f side.style v
   color : (v : Value) → Computes b f BorderTopColor v → Computes b f side.color v
 
-or-initial : (P : Value → Type 0) (o : Option Value) (v : Value) → IfSome o P → P v → P (unwrap_or o v)
+or-initial : (P : Value → Type 0) (o : Option Value) (v : Value) → IfSome o P → P v
+    → P (unwrap_or o v)
 or-initial P None v h k = k
 or-initial P (Some x) v h k = h
 
@@ -156,25 +167,34 @@ values-of : (b : Bases) (f : ℤ) (sides : List Border) → AllByRecursion (AsTo
 values-of b f [] h parts k = nothing b f
 values-of b f (side ∷ sides) h parts k =
     let width : Computes b f side.width (width-in parts) =
-    h.0.width (width-in parts) (or-initial (Computes b f BorderTopWidth) parts.width (keyword_value Medium) k.width (λ _. refl)) in
+    h.0.width (width-in parts)
+    (or-initial (Computes b f BorderTopWidth) parts.width (keyword_value Medium) k.width
+    (λ _. refl)) in
     let style : Computes b f side.style (style-in parts) =
-    h.0.style (style-in parts) (or-initial (Computes b f BorderTopStyle) parts.style (keyword_value NoneKeyword) k.style (λ _. refl)) in
+    h.0.style (style-in parts)
+    (or-initial (Computes b f BorderTopStyle) parts.style (keyword_value NoneKeyword) k.style
+    (λ _. refl)) in
     let color : Computes b f side.color (color-in parts) =
-    h.0.color (color-in parts) (or-initial (Computes b f BorderTopColor) parts.color (color_value CurrentColor) k.color (λ _. refl)) in
+    h.0.color (color-in parts)
+    (or-initial (Computes b f BorderTopColor) parts.color (color_value CurrentColor) k.color
+    (λ _. refl)) in
     let colored : List Longhand = (side.color, color-in parts) ∷ border_values sides parts in
     let styled : List Longhand = (side.style, style-in parts) ∷ colored in
     one-more b f side.width (width-in parts) styled width
     (one-more b f side.style (style-in parts) colored style
-    (one-more b f side.color (color-in parts) (border_values sides parts) color (values-of b f sides h.1 parts k)))
+    (one-more b f side.color (color-in parts) (border_values sides parts) color
+    (values-of b f sides h.1 parts k)))
 
-sides-of : (b : Bases) (f : ℤ) → NotNegative b → (sides : List Border) → AllByRecursion (AsTop b f) sides
+sides-of : (b : Bases) (f : ℤ) → NotNegative b → (sides : List Border)
+    → AllByRecursion (AsTop b f) sides
     → (words : List Component) → IfSome (border_values_of sides words) (AllCompute b f)
 sides-of b f n sides h [] = tt
 sides-of b f n sides h (c ∷ cs) =
     if-map (border_values sides) (AllCompute b f) (border_parts (c ∷ cs))
     (of-parts (border_parts (c ∷ cs)) (parts-of b f n (c ∷ cs)))
   where
-    of-parts : (o : Option BorderParts) → IfSome o (PartsCompute b f) → IfSome o (λ parts. AllCompute b f (border_values sides parts))
+    of-parts : (o : Option BorderParts) → IfSome o (PartsCompute b f)
+        → IfSome o (λ parts. AllCompute b f (border_values sides parts))
     of-parts None k = tt
     of-parts (Some parts) k = values-of b f sides h parts k
 
@@ -190,33 +210,43 @@ type-of : (b : Bases) (f : ℤ) → NotNegative b → (o : Option (List Componen
 type-of b f n None = λ _. refl
 type-of b f n (Some words) = own b f n ContainerType words
 
-own-values : (b : Bases) (f : ℤ) → NotNegative b → (s : Shorthand) → HasBorders b f s → (words : List Component)
+own-values : (b : Bases) (f : ℤ) → NotNegative b → (s : Shorthand) → HasBorders b f s
+    → (words : List Component)
     → IfSome (own_values_of s words) (AllCompute b f)
 own-values b f n (four_sides p q r s) h words = each-four b f n p q r s words
 own-values b f n (two_sides p q) h words = each-two b f n p q words
 own-values b f n (borders sides) h words = sides-of b f n sides h words
 own-values b f n background h words =
-    last-of b f BackgroundColor (if is_none_alone words then Some transparent else own_value_of BackgroundColor words)
-    (if-either (is_none_alone words) (Computes b f BackgroundColor) (Some transparent) (own_value_of BackgroundColor words)
+    last-of b f BackgroundColor
+    (if is_none_alone words then Some transparent else own_value_of BackgroundColor words)
+    (if-either (is_none_alone words) (Computes b f BackgroundColor) (Some transparent)
+    (own_value_of BackgroundColor words)
     (λ _ _. refl) (λ _. own b f n BackgroundColor words))
 own-values b f n container h words =
     front-of b f ContainerName (own_value_of ContainerName (before_slash words))
-    (in_front (option_map (λ v. (ContainerType, v)) (container_type_of (after_slash words))) (Some []))
+    (in_front (option_map (λ v. (ContainerType, v)) (container_type_of (after_slash words)))
+    (Some []))
     (own b f n ContainerName (before_slash words))
-    (last-of b f ContainerType (container_type_of (after_slash words)) (type-of b f n (after_slash words)))
+    (last-of b f ContainerType (container_type_of (after_slash words))
+    (type-of b f n (after_slash words)))
 own-values b f n all h words = tt
 
-wide-values : (b : Bases) (f : ℤ) (ps : List Prop) (w : WideKeyword) → AllCompute b f (map (λ p. (p, wide_keyword w)) ps)
+wide-values : (b : Bases) (f : ℤ) (ps : List Prop) (w : WideKeyword)
+    → AllCompute b f (map (λ p. (p, wide_keyword w)) ps)
 wide-values b f [] w = nothing b f
 wide-values b f (p ∷ ps) w =
-    one-more b f p (wide_keyword w) (map (λ p. (p, wide_keyword w)) ps) (λ _. initial-computed p) (wide-values b f ps w)
+    one-more b f p (wide_keyword w) (map (λ p. (p, wide_keyword w)) ps) (λ _. initial-computed p)
+    (wide-values b f ps w)
 
-expansion-computes : (b : Bases) (f : ℤ) → NotNegative b → (s : Shorthand) → HasBorders b f s → (cs : Components)
+expansion-computes : (b : Bases) (f : ℤ) → NotNegative b → (s : Shorthand) → HasBorders b f s
+    → (cs : Components)
     → IfSome (expansion_of s cs) (AllCompute b f)
 expansion-computes b f n s h cs =
-    if-or (AllCompute b f) (option_map (λ w. map (λ p. (p, wide_keyword w)) (longhands s)) (wide_keyword_of (words_of cs)))
+    if-or (AllCompute b f)
+    (option_map (λ w. map (λ p. (p, wide_keyword w)) (longhands s)) (wide_keyword_of (words_of cs)))
     (own_values_of s (words_of cs))
-    (if-map (λ w. map (λ p. (p, wide_keyword w)) (longhands s)) (AllCompute b f) (wide_keyword_of (words_of cs))
+    (if-map (λ w. map (λ p. (p, wide_keyword w)) (longhands s)) (AllCompute b f)
+    (wide_keyword_of (words_of cs))
     (if-all _ (wide_keyword_of (words_of cs)) (wide-values b f (longhands s))))
     (own-values b f n s h (words_of cs))
 
@@ -238,7 +268,8 @@ left-as_top b f = record { width = λ v h. h; style = λ v h. h; color = λ v h.
 in-table : (P : Shorthand → Type 0) (test : Text → Bool) (table : List (Text × Shorthand))
     → AllByRecursion (λ e. P e.1) table → IfSome (lookup test table) P
 in-table P test [] h = tt
-in-table P test (e ∷ es) h = if-either (test e.0) P (Some e.1) (lookup test es) (λ _. h.0) (λ _. in-table P test es h.1)
+in-table P test (e ∷ es) h = if-either (test e.0) P (Some e.1) (lookup test es) (λ _. h.0)
+    (λ _. in-table P test es h.1)
 
 table-borders : (b : Bases) (f : ℤ) → AllByRecursion (λ e. HasBorders b f e.1) shorthands
 table-borders b f = (
@@ -273,7 +304,8 @@ table-borders b f = (
   ),
 )
 
-pub shorthand-computes : (b : Bases) (f : ℤ) → NotNegative b → (name : Text) (s : Shorthand) → shorthand_of_name name ≡ Some s
+pub shorthand-computes : (b : Bases) (f : ℤ) → NotNegative b → (name : Text) (s : Shorthand)
+    → shorthand_of_name name ≡ Some s
     → (cs : Components) → IfSome (expansion_of s cs) (AllCompute b f)
 shorthand-computes b f n name s e cs =
     expansion-computes b f n s

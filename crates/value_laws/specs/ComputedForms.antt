@@ -1,5 +1,5 @@
 -- Which computed values each property has (CSS Cascade 4, section 4.4; the modules of each property).
--- How large a number or a percentage may be is not said here.
+-- How large a number, a percentage or an integer may be is not said here.
 use Rattle.std.specs.Prelude.{◌≡◌, ℕ, ℤ, pos, neg_ℤ, ◌≤ℤ◌, ◌&&◌, ◌||◌, not, nat_le, int_le, List, [], ◌∷◌, Bool, true, false}
 use Rattle.std.specs.List.{list_any, list_all}
 use Rattle.std.specs.Str.{bytes_eq, str_eq_ignore_ascii_case}

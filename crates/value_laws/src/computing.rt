@@ -16,17 +16,17 @@ ghost use Rattle.value_model.specs.declared.prop.Prop.TheVariants.{BorderBottomW
 
 /// Each value that the grammar of a property takes computes to one of its computed values.
 ///
-/// A positive length in a unit that is below 0 would be below 0 too, so no base may be; the font size
-/// of the parent may. A CSS-wide keyword computes here to the initial value.
+/// No base is below 0, since a positive length in a unit of such a base would be below 0 too; the font
+/// size of the parent may be. A CSS-wide keyword computes here to the initial value.
 pub fn takes_what_the_grammar_takes()
-    ensures { (p : Prop) (cs : Components) (v : Value) (b : Bases) (parent_font : ℤ) → NotNegative b
-        → value_of p cs ≡ Some v → Computes b parent_font p v }
+    ensures { (p : Prop) (cs : Components) (v : Value) (b : Bases) (parent_font : ℤ)
+        → NotNegative b → value_of p cs ≡ Some v → Computes b parent_font p v }
 {}
 
-/// Each value that a shorthand sets does too.
+/// Each value that a shorthand gives to a property does too.
 pub fn takes_what_a_shorthand_sets()
-    ensures { (name : Text) (s : Shorthand) (cs : Components) (b : Bases) (parent_font : ℤ) → NotNegative b
-        → shorthand_of_name name ≡ Some s
+    ensures { (name : Text) (s : Shorthand) (cs : Components) (b : Bases) (parent_font : ℤ)
+        → NotNegative b → shorthand_of_name name ≡ Some s
         → IfSome (expansion_of s cs) (λ ls. All (λ l. Computes b parent_font l.0 l.1) ls) }
 {}
 
@@ -35,8 +35,7 @@ pub fn initial_values_are_computed()
     ensures { (p : Prop) → is_computed p (property p).initial ≡ true }
 {}
 
-/// A border without a style has no width, and that is a computed value too (CSS Backgrounds 3, section
-/// 3.3).
+/// A border without a style has no width, and that is a computed width (CSS Backgrounds 3, section 3.3).
 pub fn no_width_is_computed()
     ensures top { is_computed BorderTopWidth (pixels 0) ≡ true }
     ensures right { is_computed BorderRightWidth (pixels 0) ≡ true }
@@ -44,7 +43,7 @@ pub fn no_width_is_computed()
     ensures left { is_computed BorderLeftWidth (pixels 0) ≡ true }
 {}
 
-/// The root becomes a block, and that is a computed value too (CSS 2.1, section 9.7).
+/// The root becomes a block, and that is a computed `display` (CSS 2.1, section 9.7).
 pub fn block_is_computed()
     ensures { is_computed Display (keyword Block) ≡ true }
 {}

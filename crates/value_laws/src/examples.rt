@@ -14,8 +14,11 @@ ghost use Rattle.value_model.specs.declared.wide_keyword.WideKeyword.TheVariants
 
 /// Keywords of boxes.
 pub fn keywords_of_boxes()
-    ensures auto { properties_with (keyword Auto) ≡ (Width ∷ Height ∷ []) ++ (margins ++ (Overflow ∷ ZIndex ∷ PointerEvents ∷ [])) }
-    ensures none { properties_with (keyword NoneKeyword) ≡ (Display ∷ MaxWidth ∷ MaxHeight ∷ []) ++ (border_styles ++ (TextDecorationLine ∷ PointerEvents ∷ [])) }
+    ensures auto { properties_with (keyword Auto)
+        ≡ (Width ∷ Height ∷ []) ++ (margins ++ (Overflow ∷ ZIndex ∷ PointerEvents ∷ [])) }
+    ensures none { properties_with (keyword NoneKeyword)
+        ≡ (Display ∷ MaxWidth ∷ MaxHeight ∷ []) ++ (border_styles
+        ++ (TextDecorationLine ∷ PointerEvents ∷ [])) }
     ensures block { properties_with (keyword Block) ≡ Display ∷ [] }
     ensures inline { properties_with (keyword Inline) ≡ Display ∷ [] }
     ensures inline_block { properties_with (keyword InlineBlock) ≡ Display ∷ [] }
@@ -23,12 +26,14 @@ pub fn keywords_of_boxes()
     ensures content_box { properties_with (keyword ContentBox) ≡ BoxSizing ∷ [] }
     ensures border_box { properties_with (keyword BorderBox) ≡ BoxSizing ∷ [] }
     ensures visible { properties_with (keyword Visible) ≡ Overflow ∷ Visibility ∷ [] }
-    ensures hidden { properties_with (keyword Hidden) ≡ border_styles ++ (Overflow ∷ Visibility ∷ []) }
+    ensures hidden { properties_with (keyword Hidden)
+        ≡ border_styles ++ (Overflow ∷ Visibility ∷ []) }
     ensures scroll { properties_with (keyword Scroll) ≡ Overflow ∷ [] }
     ensures collapse { properties_with (keyword Collapse) ≡ Visibility ∷ [] }
     ensures inline_size { properties_with (keyword InlineSize) ≡ ContainerType ∷ [] }
     ensures size { properties_with (keyword Size) ≡ ContainerType ∷ [] }
-    ensures normal { properties_with (keyword Normal) ≡ LineHeight ∷ WhiteSpace ∷ ContainerType ∷ FontStyle ∷ [] }
+    ensures normal { properties_with (keyword Normal)
+        ≡ LineHeight ∷ WhiteSpace ∷ ContainerType ∷ FontStyle ∷ [] }
 {}
 
 /// Keywords of borders: those of widths compute to lengths.
@@ -103,7 +108,8 @@ pub fn integers()
 
 /// Colours, whose parts are from 0 to 255; `color` is never `currentcolor`.
 pub fn colors()
-    ensures current { properties_with (color CurrentColor) ≡ border_colors ++ (BackgroundColor ∷ []) }
+    ensures current { properties_with (color CurrentColor)
+        ≡ border_colors ++ (BackgroundColor ∷ []) }
     ensures transparent { properties_with (rgba_color 0 0 0 0) ≡ with_colors }
     ensures white { properties_with (rgba_color 255 255 255 255) ≡ with_colors }
     ensures too_red { properties_with (rgba_color 256 0 0 0) ≡ [] }
@@ -114,11 +120,15 @@ pub fn colors()
 
 /// Containments: not both `size` and `inline-size`.
 pub fn containments()
-    ensures nothing { properties_with (containment (contained false false false false false)) ≡ Contain ∷ [] }
-    ensures strict { properties_with (containment (contained true false true true true)) ≡ Contain ∷ [] }
-    ensures inline_size { properties_with (containment (contained false true true true true)) ≡ Contain ∷ [] }
+    ensures nothing { properties_with (containment (contained false false false false false))
+        ≡ Contain ∷ [] }
+    ensures strict { properties_with (containment (contained true false true true true))
+        ≡ Contain ∷ [] }
+    ensures inline_size { properties_with (containment (contained false true true true true))
+        ≡ Contain ∷ [] }
     ensures both { properties_with (containment (contained true true false false false)) ≡ [] }
-    ensures both_and_more { properties_with (containment (contained true true true true true)) ≡ [] }
+    ensures both_and_more { properties_with (containment (contained true true true true true))
+        ≡ [] }
 {}
 
 /// Names of containers: `none` is no name.
@@ -128,7 +138,8 @@ pub fn container_names()
     ensures two { properties_with (names (codes "card" ∷ codes "auto" ∷ [])) ≡ ContainerName ∷ [] }
     ensures not_none { properties_with (names (codes "none" ∷ [])) ≡ [] }
     ensures not_in_capitals { properties_with (names (codes "NOT" ∷ [])) ≡ [] }
-    ensures not_at_the_end { properties_with (names (codes "card" ∷ codes "revert-layer" ∷ [])) ≡ [] }
+    ensures not_at_the_end { properties_with (names (codes "card" ∷ codes "revert-layer" ∷ []))
+        ≡ [] }
 {}
 
 /// What is not computed: `currentcolor` for `color` alone.

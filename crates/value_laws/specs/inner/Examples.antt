@@ -77,4 +77,5 @@ negative_bases = record {
 
 -- a padding of one of a unit of this base, where the bases are below 0
 abbrev pub padding_of : LengthBase → Final
-padding_of base = computed PaddingTop (length_value (dimension (pos 1000000) (unit base 1 1))) negative_bases (pos 0)
+padding_of base =
+    computed PaddingTop (length_value (dimension (pos 1000000) (unit base 1 1))) negative_bases (pos 0)

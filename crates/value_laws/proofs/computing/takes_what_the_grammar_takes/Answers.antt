@@ -8,4 +8,5 @@ use Rattle.value_laws.proofs.computing.takes_what_the_grammar_takes.Goals as goa
 pub returns : goal.returns
 returns c = λ p cs v b parent_font h taken.
     from-if (Computes b parent_font p) (value_of p cs) v taken
-    (of-value p cs (Computes b parent_font p) (λ w _. initial-computed p) (computes-forms p b parent_font h))
+    (of-value p cs (Computes b parent_font p) (λ w _. initial-computed p)
+    (computes-forms p b parent_font h))
