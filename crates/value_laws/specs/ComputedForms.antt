@@ -90,7 +90,7 @@ is_containment v = false
 abbrev pub is_container_name : Text → Bool
 is_container_name name = not (list_any (str_eq_ignore_ascii_case name) no_container_names)
 
--- no names are `none`
+-- names of containers; without one it is `none`
 abbrev pub are_container_names : Final → Bool
 are_container_names (names ns) = list_all is_container_name ns
 are_container_names v = false
