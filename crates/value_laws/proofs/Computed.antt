@@ -1,26 +1,25 @@
 -- What a property's grammar takes computes to one of the property's computed values.
-use Rattle.std.proofs.Common.{◌≡◌, refl, ◌||◌, ◌&&◌, not, List, [], ◌∷◌, Bool, true, false, arith}
+use Rattle.std.proofs.Common.{◌≡◌, refl, ◌||◌, not, [], ◌∷◌, Bool, true, false, arith}
 use Rattle.std.specs.Prelude.{ℤ, pos, int_le, ◌≤ℤ◌}
 use Rattle.std.specs.Int.{int_min, int_max}
 use Rattle.std.proofs.lemmas.Int.{ints, clamps}
-use Rattle.value_model.specs.declared.color.Color.TheVariants.{CurrentColor, Rgba as AnRgba}
 use Rattle.value_model.specs.declared.keyword.Keyword.{Keyword}
 use Rattle.value_model.specs.declared.keyword.Keyword.TheVariants.{Thin, Medium, Thick, Bold, Left, Right, Center, Start, End}
 use Rattle.value_model.specs.declared.length_unit.Bases.{Bases}
 use Rattle.value_model.specs.declared.prop.Prop.{Prop}
 use Rattle.value_model.specs.declared.prop.Prop.TheVariants.{Display, Width, Height, MinWidth, MinHeight, MaxWidth, MaxHeight, MarginTop, MarginRight, MarginBottom, MarginLeft, PaddingTop, PaddingRight, PaddingBottom, PaddingLeft, BorderTopWidth, BorderRightWidth, BorderBottomWidth, BorderLeftWidth, BorderTopStyle, BorderRightStyle, BorderBottomStyle, BorderLeftStyle, BorderTopColor, BorderRightColor, BorderBottomColor, BorderLeftColor, BoxSizing, FontSize, LineHeight, Color, BackgroundColor, TextAlign, WhiteSpace, Overflow, Contain, ContainerType, ContainerName, Visibility, Opacity, FontStyle, FontWeight, ZIndex, TextDecorationLine, PointerEvents}
-use Rattle.value_model.specs.Computing.{computed, border_width, alignment, weight, absolute_length}
-use Rattle.value_model.specs.Forms.{is_between}
-use Rattle.value_model.specs.Lengths.{ComputedLength, computed_length, in_clamped_units, used_length}
+use Rattle.value_model.specs.Computing.{border_width, alignment, weight}
+use Rattle.value_model.specs.Lengths.{computed_length}
 use Rattle.value_model.specs.Properties.{property}
-use Rattle.value_model.specs.Values.{Value, alpha}
-use Rattle.value_laws.specs.ComputedForms.{is_among, is_one_of, is_absolute_length, is_alpha, is_integer_between, is_computed, NotNegative, is_inherited_color}
+use Rattle.value_model.specs.Values.{alpha}
+use Rattle.value_laws.specs.ComputedForms.{is_among, is_one_of, is_absolute_length, is_alpha, is_integer_between, is_computed, NotNegative, Computes}
 use Rattle.value_laws.proofs.Lengths.{tested, dimension-from_zero, length-from_zero, any-length, absolute-computed}
 use Rattle.value_laws.proofs.Values.{OfForms}
 
 -- ---- what computes to something else
 
-width-computed : (k : Keyword) → is_among (Thin ∷ Medium ∷ Thick ∷ []) k ≡ true → is_absolute_length (border_width k) ≡ true
+width-computed : (k : Keyword) → is_among (Thin ∷ Medium ∷ Thick ∷ []) k ≡ true
+    → is_absolute_length (border_width k) ≡ true
 width-computed Thin h = refl
 width-computed Medium h = refl
 width-computed Thick h = refl
@@ -53,10 +52,6 @@ alpha-computed n = rw (above-zero (int_min (pos 1000000) n), below-one n) refl
 
 -- ---- all properties
 
--- a value of a property that is to be computed
-abbrev pub Computes : Prop → Bases → ℤ → Value → Type 0
-Computes p b parent_font v = is_inherited_color p v ≡ false → is_computed p (computed p v b parent_font) ≡ true
-
 first : (a b : Bool) → a ≡ true → (a || b) ≡ true
 first true b h = refl
 first false b h = (cc)
@@ -66,17 +61,22 @@ flipped true h = (cc)
 flipped false h = refl
 
 pub computes-forms : (p : Prop) (b : Bases) (parent_font : ℤ) → NotNegative b
-    → OfForms (property p).forms (Computes p b parent_font)
+    → OfForms (property p).forms (Computes b parent_font p)
 computes-forms Display b parent_font h = (λ k m _. m, tt)
-computes-forms Width b parent_font h = (λ k m _. first _ false m, (λ l m _. length-from_zero b l h m, tt))
-computes-forms Height b parent_font h = (λ k m _. first _ false m, (λ l m _. length-from_zero b l h m, tt))
+computes-forms Width b parent_font h =
+    (λ k m _. first _ false m, (λ l m _. length-from_zero b l h m, tt))
+computes-forms Height b parent_font h =
+    (λ k m _. first _ false m, (λ l m _. length-from_zero b l h m, tt))
 computes-forms MinWidth b parent_font h = (λ k m _. refl, (λ l m _. length-from_zero b l h m, tt))
 computes-forms MinHeight b parent_font h = (λ k m _. refl, (λ l m _. length-from_zero b l h m, tt))
-computes-forms MaxWidth b parent_font h = (λ k m _. first _ false m, (λ l m _. length-from_zero b l h m, tt))
-computes-forms MaxHeight b parent_font h = (λ k m _. first _ false m, (λ l m _. length-from_zero b l h m, tt))
+computes-forms MaxWidth b parent_font h =
+    (λ k m _. first _ false m, (λ l m _. length-from_zero b l h m, tt))
+computes-forms MaxHeight b parent_font h =
+    (λ k m _. first _ false m, (λ l m _. length-from_zero b l h m, tt))
 computes-forms MarginTop b parent_font h = (λ k m _. first _ false m, (λ l _. any-length b l, tt))
 computes-forms MarginRight b parent_font h = (λ k m _. first _ false m, (λ l _. any-length b l, tt))
-computes-forms MarginBottom b parent_font h = (λ k m _. first _ false m, (λ l _. any-length b l, tt))
+computes-forms MarginBottom b parent_font h =
+    (λ k m _. first _ false m, (λ l _. any-length b l, tt))
 computes-forms MarginLeft b parent_font h = (λ k m _. first _ false m, (λ l _. any-length b l, tt))
 computes-forms PaddingTop b parent_font h = (λ l m _. length-from_zero b l h m, tt)
 computes-forms PaddingRight b parent_font h = (λ l m _. length-from_zero b l h m, tt)
@@ -99,9 +99,12 @@ computes-forms BorderRightColor b parent_font h = ((λ _. refl, λ c m _. m), tt
 computes-forms BorderBottomColor b parent_font h = ((λ _. refl, λ c m _. m), tt)
 computes-forms BorderLeftColor b parent_font h = ((λ _. refl, λ c m _. m), tt)
 computes-forms BoxSizing b parent_font h = (λ k m _. m, tt)
-computes-forms FontSize b parent_font h = (λ k m _. refl, (λ l m _. absolute-computed parent_font (computed_length b l), tt))
-computes-forms LineHeight b parent_font h =
-    (λ k m _. first _ false m, (λ n m _. first _ false m, (λ l m _. absolute-computed b.em (computed_length b l), tt)))
+computes-forms FontSize b parent_font h =
+    (λ k m _. refl, (λ l m _. absolute-computed parent_font (computed_length b l), tt))
+computes-forms LineHeight b parent_font h = (
+  λ k m _. first _ false m,
+  (λ n m _. first _ false m, (λ l m _. absolute-computed b.em (computed_length b l), tt)),
+)
 computes-forms Color b parent_font h = ((λ n. (cc), λ c m _. m), tt)
 computes-forms BackgroundColor b parent_font h = ((λ _. refl, λ c m _. m), tt)
 computes-forms TextAlign b parent_font h = (λ k m _. alignment-computed k m, tt)

@@ -1,9 +1,9 @@
 -- What holds of the value that is found, if one is.
-use Rattle.std.proofs.Common.{◌≡◌, refl, List, [], ◌∷◌, Bool, true, false, inl, inr, if◌then◌else◌}
+use Rattle.std.proofs.Common.{◌≡◌, refl, Bool, true, false, inl, inr, if◌then◌else◌}
 use Rattle.std.specs.Prelude.{Option, Some, None, IfSome, option_map, option_and_then}
 use Rattle.std.specs.Option.{option_or}
 use Rattle.std.proofs.lemmas.Bool.{cases_Bool}
-use Rattle.value_model.specs.Forms.{if_it, unless}
+use Rattle.value_model.specs.Forms.{if_it}
 
 pub if-all : {X : Type 0} (P : X → Type 0) (o : Option X) → ((x : X) → P x) → IfSome o P
 if-all P None h = tt
@@ -19,7 +19,8 @@ pub if-then : {X Y : Type 0} (f : X → Option Y) (P : Y → Type 0) (o : Option
 if-then f P None h = tt
 if-then f P (Some x) h = h
 
-pub if-or : {X : Type 0} (P : X → Type 0) (o p : Option X) → IfSome o P → IfSome p P → IfSome (option_or o p) P
+pub if-or : {X : Type 0} (P : X → Type 0) (o p : Option X) → IfSome o P → IfSome p P
+    → IfSome (option_or o p) P
 if-or P None p h k = k
 if-or P (Some x) p h k = h
 

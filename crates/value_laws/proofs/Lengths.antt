@@ -1,9 +1,8 @@
 -- Lengths compute to lengths that fit, and those that are not negative to lengths that are not negative.
-use Rattle.std.proofs.Common.{◌≡◌, refl, ℕ, ◌*◌, ◌/◌, ◌<◌, ◌≤◌, Bool, true, false, inl, inr, arith}
+use Rattle.std.proofs.Common.{◌≡◌, refl, ℕ, ◌*◌, ◌/◌, true, false, arith}
 use Rattle.std.specs.Prelude.{ℤ, pos, negsuc, ◌*ℤ◌, neg_ℤ, ◌≤ℤ◌, int_le, int_lt, int_div}
 use Rattle.std.specs.Int.{int_min, int_max}
 use Rattle.std.proofs.lemmas.Int.{ints, clamps}
-use Rattle.std.proofs.Math.IntN.{pos-*ℤ-pos}
 use Rattle.units64.specs.Conversions.{millionths_of, units_of}
 use Rattle.units64.specs.Limits.{clamped_millionths, clamped_units}
 use Rattle.units64.specs.declared.constants.TheConstants.{UNITS_PER_PIXEL, MILLIONTHS_PER_PIXEL, MILLIONTHS_PER_UNIT, MAX_UNITS, MAX_MILLIONTHS}
@@ -89,24 +88,32 @@ base-from_zero b h Cqmax = greatest-of b.cqw b.cqh h.cqh
 in-units : (n : ℤ) → pos 0 ≤ℤ n → pos 0 ≤ℤ in_clamped_units n
 in-units n h =
     clamped-length (units_of n)
-    (of-quotient (n *ℤ UNITS_PER_PIXEL) MILLIONTHS_PER_PIXEL (of-product n UNITS_PER_PIXEL h (natural _)) (natural _))
+    (of-quotient (n *ℤ UNITS_PER_PIXEL) MILLIONTHS_PER_PIXEL
+    (of-product n UNITS_PER_PIXEL h (natural _)) (natural _))
 
-of-dimension : (b : Bases) (n : ℤ) (u : LengthUnit) → NotNegative b → pos 0 ≤ℤ n → pos 0 ≤ℤ dimension_value b n u
+of-dimension : (b : Bases) (n : ℤ) (u : LengthUnit) → NotNegative b → pos 0 ≤ℤ n
+    → pos 0 ≤ℤ dimension_value b n u
 of-dimension b n u h k =
     let base : ℤ = base_length b u.base in
     let above : pos 0 ≤ℤ (n *ℤ pos u.numerator *ℤ millionths_of base) =
-        of-product (n *ℤ pos u.numerator) (millionths_of base) (of-product n (pos u.numerator) k (natural _))
-        (of-product base MILLIONTHS_PER_UNIT (base-from_zero b h u.base) (natural _)) in
+    of-product (n *ℤ pos u.numerator) (millionths_of base)
+    (of-product n (pos u.numerator) k (natural _))
+    (of-product base MILLIONTHS_PER_UNIT (base-from_zero b h u.base) (natural _)) in
     let below : pos 0 ≤ℤ (pos u.denominator *ℤ MILLIONTHS_PER_PIXEL) =
-        of-product (pos u.denominator) MILLIONTHS_PER_PIXEL (natural _) (natural _) in
-    clamped-number (int_div (n *ℤ pos u.numerator *ℤ millionths_of base) (pos u.denominator *ℤ MILLIONTHS_PER_PIXEL))
-    (of-quotient (n *ℤ pos u.numerator *ℤ millionths_of base) (pos u.denominator *ℤ MILLIONTHS_PER_PIXEL) above below)
+    of-product (pos u.denominator) MILLIONTHS_PER_PIXEL (natural _) (natural _) in
+    clamped-number
+    (int_div (n *ℤ pos u.numerator *ℤ millionths_of base)
+    (pos u.denominator *ℤ MILLIONTHS_PER_PIXEL))
+    (of-quotient (n *ℤ pos u.numerator *ℤ millionths_of base)
+    (pos u.denominator *ℤ MILLIONTHS_PER_PIXEL) above below)
 
-pub dimension-from_zero : (b : Bases) (n : ℤ) (u : LengthUnit) → NotNegative b → int_lt n (pos 0) ≡ false
+pub dimension-from_zero : (b : Bases) (n : ℤ) (u : LengthUnit) → NotNegative b
+    → int_lt n (pos 0) ≡ false
     → is_absolute_length (length (computed_length b (dimension n u))) ≡ true
 dimension-from_zero b n u h k =
     fits-from (pos 0) (in_clamped_units (dimension_value b n u))
-    (in-units (dimension_value b n u) (of-dimension b n u h (not-below n k))) (in-units-greatest (dimension_value b n u))
+    (in-units (dimension_value b n u) (of-dimension b n u h (not-below n k)))
+    (in-units-greatest (dimension_value b n u))
 
 pub length-from_zero : (b : Bases) (l : Length) → NotNegative b → is_negative l ≡ false
     → is_length (length (computed_length b l)) ≡ true
@@ -115,16 +122,19 @@ length-from_zero b (percentage n) h k = tested n (not-below n k)
 
 pub any-length : (b : Bases) (l : Length) → is_any_length (length (computed_length b l)) ≡ true
 any-length b (dimension n u) =
-    fits-from (neg_ℤ MAX_UNITS) (in_clamped_units (dimension_value b n u)) (in-units-least (dimension_value b n u))
+    fits-from (neg_ℤ MAX_UNITS) (in_clamped_units (dimension_value b n u))
+    (in-units-least (dimension_value b n u))
     (in-units-greatest (dimension_value b n u))
 any-length b (percentage n) = refl
 
 -- where percentages refer to a base
-pub absolute-computed : (base : ℤ) (l : ComputedLength) → is_absolute_length (absolute_length base l) ≡ true
+pub absolute-computed : (base : ℤ) (l : ComputedLength)
+    → is_absolute_length (absolute_length base l) ≡ true
 absolute-computed base l =
     fits-from (pos 0) (int_max (pos 0) (in_clamped_units (used_length l base)))
     (from-zero (in_clamped_units (used_length l base)))
-    (to-most (in_clamped_units (used_length l base)) MAX_UNITS (in-units-greatest (used_length l base)) (natural _))
+    (to-most (in_clamped_units (used_length l base)) MAX_UNITS
+    (in-units-greatest (used_length l base)) (natural _))
   where
     from-zero : (n : ℤ) → pos 0 ≤ℤ int_max (pos 0) n
     from-zero n = omega (arith, ints, clamps)

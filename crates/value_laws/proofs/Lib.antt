@@ -4,4 +4,5 @@ pub mod Found
 pub mod Lengths
 pub mod Longhands
 pub mod Places
+pub mod ShorthandValues
 pub mod Values

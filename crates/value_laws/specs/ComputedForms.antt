@@ -1,18 +1,18 @@
 -- Which computed values each property has (CSS Cascade 4, section 4.4; the modules of each property).
--- How large a number or a percentage may be is not said here.
-use Rattle.std.specs.Prelude.{ℕ, ℤ, pos, neg_ℤ, ◌≤ℤ◌, ◌&&◌, ◌||◌, not, nat_le, int_le, List, [], ◌∷◌, Bool, true, false}
+-- How large a number, a percentage or an integer may be is not said here.
+use Rattle.std.specs.Prelude.{◌≡◌, ℕ, ℤ, pos, neg_ℤ, ◌≤ℤ◌, ◌&&◌, ◌||◌, not, nat_le, int_le, List, [], ◌∷◌, Bool, true, false}
 use Rattle.std.specs.List.{list_any, list_all}
 use Rattle.std.specs.Str.{bytes_eq, str_eq_ignore_ascii_case}
 use Rattle.units64.specs.declared.constants.TheConstants.{MAX_UNITS}
 use Rattle.css_model.specs.Classes.{Text}
 use Rattle.value_model.specs.declared.color.Color.TheVariants.{CurrentColor, Rgba as AnRgba}
 use Rattle.value_model.specs.declared.color.Rgba.{Rgba}
-use Rattle.value_model.specs.declared.containment.Containment.{Containment}
 use Rattle.value_model.specs.declared.keyword.Keyword.{Keyword}
 use Rattle.value_model.specs.declared.keyword.Keyword.TheVariants.{Auto, None as NoneKeyword, Block, Inline, InlineBlock, FlowRoot, Hidden, ContentBox, BorderBox, Normal, Left, Right, Center, Nowrap, Visible, Scroll, InlineSize, Size, Collapse, Italic, Oblique, Underline, Overline, LineThrough}
 use Rattle.value_model.specs.declared.length_unit.Bases.{Bases}
 use Rattle.value_model.specs.declared.prop.Prop.{Prop}
 use Rattle.value_model.specs.declared.prop.Prop.TheVariants.{Display, Width, Height, MinWidth, MinHeight, MaxWidth, MaxHeight, MarginTop, MarginRight, MarginBottom, MarginLeft, PaddingTop, PaddingRight, PaddingBottom, PaddingLeft, BorderTopWidth, BorderRightWidth, BorderBottomWidth, BorderLeftWidth, BorderTopStyle, BorderRightStyle, BorderBottomStyle, BorderLeftStyle, BorderTopColor, BorderRightColor, BorderBottomColor, BorderLeftColor, BoxSizing, FontSize, LineHeight, Color, BackgroundColor, TextAlign, WhiteSpace, Overflow, Contain, ContainerType, ContainerName, Visibility, Opacity, FontStyle, FontWeight, ZIndex, TextDecorationLine, PointerEvents}
+use Rattle.value_model.specs.Computing.{computed}
 use Rattle.value_model.specs.Forms.{is_between, no_container_names}
 use Rattle.value_model.specs.Keywords.{keyword_text}
 use Rattle.value_model.specs.Lengths.{in_units, in_percent}
@@ -90,7 +90,7 @@ is_containment v = false
 abbrev pub is_container_name : Text → Bool
 is_container_name name = not (list_any (str_eq_ignore_ascii_case name) no_container_names)
 
--- no names are `none`
+-- names of containers; without one it is `none`
 abbrev pub are_container_names : Final → Bool
 are_container_names (names ns) = list_all is_container_name ns
 are_container_names v = false
@@ -161,3 +161,8 @@ pub record NotNegative (b : Bases) : Type 0 where
 abbrev pub is_inherited_color : Prop → Value → Bool
 is_inherited_color Color (color_value CurrentColor) = true
 is_inherited_color p v = false
+
+-- a value computes to one of the property's computed values, if it is computed
+abbrev pub Computes : Bases → (parent_font : ℤ) → Prop → Value → Type 0
+Computes b parent_font p v =
+    is_inherited_color p v ≡ false → is_computed p (computed p v b parent_font) ≡ true

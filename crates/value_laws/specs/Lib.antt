@@ -1,1 +1,2 @@
 pub mod ComputedForms
+pub mod inner

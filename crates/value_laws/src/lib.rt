@@ -4,5 +4,6 @@
 #![tactic(auto)]
 
 pub mod computing;
+pub mod examples;
 pub mod properties;
 pub mod shorthands;

@@ -1,0 +1,81 @@
+-- Words of the examples: groups of properties.
+use Rattle.std.specs.Prelude.{ℕ, ℤ, pos, negsuc, List, [], ◌∷◌, ◌++◌, filter}
+use Rattle.value_model.specs.declared.color.Color.TheVariants.{Rgba as AnRgba}
+use Rattle.value_model.specs.declared.length_unit.Bases.{Bases}
+use Rattle.value_model.specs.declared.length_unit.LengthBase.{LengthBase}
+use Rattle.value_model.specs.declared.prop.Prop.{Prop}
+use Rattle.value_model.specs.declared.prop.Prop.TheVariants.{Width, Height, MinWidth, MinHeight, MaxWidth, MaxHeight, MarginTop, MarginRight, MarginBottom, MarginLeft, PaddingTop, PaddingRight, PaddingBottom, PaddingLeft, BorderTopWidth, BorderRightWidth, BorderBottomWidth, BorderLeftWidth, BorderTopStyle, BorderRightStyle, BorderBottomStyle, BorderLeftStyle, BorderTopColor, BorderRightColor, BorderBottomColor, BorderLeftColor, FontSize, LineHeight, Color, BackgroundColor}
+use Rattle.value_model.specs.Colors.{rgba}
+use Rattle.value_model.specs.Computing.{computed}
+use Rattle.value_model.specs.Lengths.{in_units, in_percent, dimension, unit}
+use Rattle.value_model.specs.Properties.{properties}
+use Rattle.value_model.specs.Values.{Value, length_value, Final, length, color}
+use Rattle.value_laws.specs.ComputedForms.{is_computed, is_inherited_color}
+
+-- the properties that have this computed value
+abbrev pub properties_with : Final → List Prop
+properties_with v = filter (λ p. is_computed p v) properties
+
+-- the properties for which this value is not computed
+abbrev pub not_computed : Value → List Prop
+not_computed v = filter (λ p. is_inherited_color p v) properties
+
+-- ---- groups of properties
+
+abbrev pub sizes : List Prop
+sizes = Width ∷ Height ∷ MinWidth ∷ MinHeight ∷ MaxWidth ∷ MaxHeight ∷ []
+
+abbrev pub margins : List Prop
+margins = MarginTop ∷ MarginRight ∷ MarginBottom ∷ MarginLeft ∷ []
+
+abbrev pub paddings : List Prop
+paddings = PaddingTop ∷ PaddingRight ∷ PaddingBottom ∷ PaddingLeft ∷ []
+
+abbrev pub border_widths : List Prop
+border_widths = BorderTopWidth ∷ BorderRightWidth ∷ BorderBottomWidth ∷ BorderLeftWidth ∷ []
+
+abbrev pub border_styles : List Prop
+border_styles = BorderTopStyle ∷ BorderRightStyle ∷ BorderBottomStyle ∷ BorderLeftStyle ∷ []
+
+abbrev pub border_colors : List Prop
+border_colors = BorderTopColor ∷ BorderRightColor ∷ BorderBottomColor ∷ BorderLeftColor ∷ []
+
+abbrev pub with_percentages : List Prop
+with_percentages = sizes ++ (margins ++ paddings)
+
+abbrev pub with_lengths : List Prop
+with_lengths = with_percentages ++ (border_widths ++ (FontSize ∷ LineHeight ∷ []))
+
+abbrev pub with_colors : List Prop
+with_colors = border_colors ++ (Color ∷ BackgroundColor ∷ [])
+
+-- ---- values
+
+abbrev pub units : ℤ → Final
+units n = length (in_units n)
+
+abbrev pub percent : ℤ → Final
+percent millionths = length (in_percent millionths)
+
+abbrev pub rgba_color : ℕ → ℕ → ℕ → ℕ → Final
+rgba_color red green blue alpha = color (AnRgba (rgba red green blue alpha))
+
+-- bases that are all 0
+abbrev pub no_bases : Bases
+no_bases = record { em = pos 0; rem = pos 0; vw = pos 0; vh = pos 0; cqw = pos 0; cqh = pos 0 }
+
+-- bases below 0
+abbrev pub negative_bases : Bases
+negative_bases = record {
+  em = negsuc 63;
+  rem = negsuc 63;
+  vw = negsuc 6399;
+  vh = negsuc 6399;
+  cqw = negsuc 6399;
+  cqh = negsuc 6399;
+}
+
+-- a padding of one of a unit of this base, where the bases are below 0
+abbrev pub padding_of : LengthBase → Final
+padding_of base =
+    computed PaddingTop (length_value (dimension (pos 1000000) (unit base 1 1))) negative_bases (pos 0)
