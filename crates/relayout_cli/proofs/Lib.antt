@@ -9,3 +9,4 @@ pub mod NumberLemmas
 pub mod SheetLemmas
 pub mod RuleLemmas
 pub mod ResponseLemmas
+pub mod StyleLemmas

@@ -1,4 +1,5 @@
 //! The lines of a style.
+ghost use Rattle.cascade_model.specs.Defaulting.{value_in};
 ghost use Rattle.prop_table.specs.Styles.{style_view};
 ghost use Rattle.prop_table.specs.Views.{final_view};
 ghost use Rattle.reply_model.specs.StyleText.{style_lines, value_line};
@@ -10,15 +11,24 @@ use port_core::NoMemory;
 use prop_table::{Final, Prop, Style, all_props, prop_name};
 
 /// Appends the lines of a style: one for each property, in their order.
-#[tactic(auto, using(cascade_core::proofs::ValueIn::value_there), unfolding(reply_model::specs::StyleText::style_lines))]
+#[tactic(auto, unfolding(reply_model::specs::StyleText::style_lines))]
 pub fn push_style(reply: &mut String, style: &Style) -> Result<(), NoMemory>
     ensures { OnOk result (string_bytes reply.new
         ≡ string_bytes reply.old ++ style_lines (style_view style.now)) }
 {
     for prop in all_props() {
-        push_value(reply, *prop, style.get(*prop))?;
+        push_value_of(reply, style, *prop)?;
     }
     Ok(())
+}
+
+/// Appends the line of a property of a style.
+#[tactic(auto, using(cascade_core::proofs::ValueIn::value_there))]
+fn push_value_of(reply: &mut String, style: &Style, prop: Prop) -> Result<(), NoMemory>
+    ensures { OnOk result (string_bytes reply.new
+        ≡ string_bytes reply.old ++ value_line prop (value_in (style_view style.now) prop)) }
+{
+    push_value(reply, prop, style.get(prop))
 }
 
 /// Appends the line of a property.

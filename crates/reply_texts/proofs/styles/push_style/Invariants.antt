@@ -7,5 +7,5 @@ use Rattle.reply_texts.proofs.styles.push_style.Given as goal
 -- what was appended so far and the lines of the rest are all
 abbrev pub invariant-loop-prop : goal.invariant-loop-prop
 invariant-loop-prop l =
-    string_bytes l.reply ++ flat_map (λ p. value_line p (value_in (style_view l.style) p)) (drop l.prop-index l.props)
-    ≡ string_bytes l.fn.reply ++ flat_map (λ p. value_line p (value_in (style_view l.style) p)) l.props
+    string_bytes l.reply ++ flat_map (λ p. value_line p (value_in (style_view l.style) p)) (drop l.prop-index l.prop-items)
+    ≡ string_bytes l.fn.reply ++ flat_map (λ p. value_line p (value_in (style_view l.style) p)) l.prop-items
