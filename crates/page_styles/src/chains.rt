@@ -7,7 +7,8 @@ ghost use Rattle.page_model.specs.Document.{id_of, name_at};
 ghost use Rattle.page_styles.specs.Paths.{IsPathAbove, log_below, style_below};
 ghost use Rattle.page_styles.specs.Styles.{IsBegun, IsNarrow, IsStyleAt, LogsStyling, page_of};
 ghost use Rattle.page_styles.specs.inner.Sources.{source_view};
-ghost use Rattle.std.specs.Prelude.{◌≡◌, ◌≤◌, ◌++◌, ◌∷◌, ◌⊎◌, [], length, IfOk, IsSome, OnErr, OnOk};
+ghost use Rattle.std.specs.Prelude.{◌≡◌, ◌≤◌, ◌++◌, ◌∷◌, ◌⊎◌, [], length, IfOk, IsSome, None, OnErr, OnOk, option_map};
+ghost use Rattle.std.specs.Option.{option_copied};
 ghost use Rattle.stream_model.specs.Ledger.{pair, pairs};
 ghost use Rattle.stream_model.specs.declared.kind.Kind.TheVariants as kinds;
 
@@ -22,7 +23,7 @@ use std::alloc::Global;
 use units64::Units;
 
 /// What styles are made from.
-#[derive(Debug)]
+#[derive(Debug, Drop)]
 pub(crate) struct Source<'a> {
     pub(crate) doc: &'a Doc,
     pub(crate) book: &'a RuleBook,
@@ -89,20 +90,22 @@ fn chain_below<L: Drop>(
 {
     let _ = from.doc.root();
     if above.is_empty() {
-        return chain_at_root(alloc, from, id, room, steps);
+        return chain_at_root(alloc, from, id, &None, room, steps);
     }
     let parent = chain_below(alloc, from, above[0], &above[1..], room, steps)?;
     chain_of_child(alloc, from, id, &parent, room, steps)
 }
 
-/// Returns the style of the root.
+/// Returns the style of the root, which has no `parent`.
 fn chain_at_root<L: Drop>(
     alloc: Global,
     from: &Source<'_>,
     id: NodeId,
+    parent: &Option<Chain<L>>,
     room: &mut Matched<L>,
     steps: &mut Steps<L>,
 ) -> Result<Chain<L>, NoMemory>
+    requires alone { parent.now ≡ None }
     requires element { IsSome (name_at id from.now.doc.now.document.root) }
     requires top { id ≡ id_of from.now.doc.now.document.root }
     requires narrow { IsNarrow from.now.viewport }
@@ -118,9 +121,19 @@ fn chain_at_root<L: Drop>(
 {
     let initial = initial_font_size();
     let bases = bases_in(from.viewport, initial, initial);
-    let styled = styled_element(alloc, from.doc, id, from.book, room, None, &bases, steps)?;
+    let parent = styled_of(parent);
+    let styled = styled_element(alloc, from.doc, id, from.book, room, parent, &bases, steps)?;
     let rem = font_size_of(styled.style());
     Ok(Chain { styled, rem })
+}
+
+fn styled_of<L>(chain: &Option<Chain<L>>) -> Option<&Styled<L>>
+    ensures { option_map styled_view (option_copied result) ≡ option_map (λ c. styled_view c.styled) chain.now }
+{
+    match chain {
+        Some(chain) => Some(&chain.styled),
+        None => None,
+    }
 }
 
 /// Returns the style of the element `id` below `parent`.

@@ -27,7 +27,7 @@ pub fn any_unbuilt_rule(sheets: &[Sheet]) -> bool
     false
 }
 
-#[tactic(auto, using(crate::proofs::Unbuilt::rules_of_sheet))]
+#[tactic(auto, using(crate::proofs::IsUnbuilt::rules_of_sheet))]
 fn has_unbuilt_rule(sheet: &Sheet) -> bool
     ensures { result ≡ list_any model.is_unbuilt_rule (sheet_view sheet.now) }
 {
@@ -90,6 +90,7 @@ fn is_unbuilt_declaration(declaration: &Declaration) -> bool
 /// Returns whether one of the tokens of component values is not built. The calls are as deep as
 /// brackets nest.
 #[cycle(components)]
+#[tactic(auto, using(crate::proofs::IsUnbuilt::any_next))]
 fn any_unbuilt(components: &[Component]) -> bool
     ensures { result ≡ list_any model.is_unbuilt_token (all_tokens_of (components_view components.now)) }
 {
@@ -102,6 +103,7 @@ fn any_unbuilt(components: &[Component]) -> bool
 }
 
 #[cycle(components)]
+#[tactic(auto, using(crate::proofs::IsUnbuilt::any_joined))]
 fn is_unbuilt(component: &Component) -> bool
     ensures { result ≡ list_any model.is_unbuilt_token (tokens_of (component_view component.now)) }
 {

@@ -16,7 +16,7 @@ use Rattle.page_model.specs.Refusals.{first_of}
 use Rattle.page_model.specs.declared.cause.Cause.{Cause}
 use Rattle.page_model.specs.declared.cause.Cause.TheVariants.{NoNode, NotBuilt, NotElement}
 use Rattle.page_model.specs.declared.viewport.Viewport.{Viewport}
-use Rattle.page_styles.proofs.Paths.{style-along}
+use Rattle.page_styles.proofs.IsPathAbove.{style-along}
 use Rattle.page_styles.specs.Paths.{style_below}
 use Rattle.page_styles.specs.Styles.{IsStyleAt, LogsStyling, page_of}
 use Rattle.reply_model.specs.StyleText.{AreStylesOf, style_lines, style_text}

@@ -133,16 +133,16 @@ is_match : Kind → Bool
 is_match Match = true
 is_match other = false
 
-match≢style : (i : ℕ) → (Match, i) ≡ (styling, i) → ⊥
-match≢style i e = false≢true (sym (ap (λ (w : Kind × ℕ). is_match w.0) e))
+match≢style : (a b : Kind × ℕ) → is_match a.0 ≡ true → is_match b.0 ≡ false → a ≡ b → ⊥
+match≢style a b h k e = false≢true (sym k ∙ (ap (λ (w : Kind × ℕ). is_match w.0) (sym e) ∙ h))
 
 log-distinct : (root : Node) (i : ℕ) (above : List ℕ) → IsPathAbove root i above → AreDistinct (log_below i above)
-log-distinct root i [] path = distinct-two (Match, i) (styling, i) [] tt (λ h. h) (λ h. h) (match≢style i)
+log-distinct root i [] path = distinct-two (Match, i) (styling, i) [] tt (λ h. h) (λ h. h) (match≢style (Match, i) (styling, i) refl refl)
 log-distinct root i (p ∷ above) path =
     let apart : (k : Kind) → IsAmong (k, i) (log_below p above) → ⊥ =
         λ k h. not-above root i (p ∷ above) path (elim (on-path p above (k, i) h) [ | inl e ↦ inl e | inr m ↦ inr m ]) in
     distinct-two (Match, i) (styling, i) (log_below p above) (log-distinct root p above path.1)
-    (apart Match) (apart styling) (match≢style i)
+    (apart Match) (apart styling) (match≢style (Match, i) (styling, i) refl refl)
 
 pub log-is_styling : (root : Node) (i : ℕ) (above : List ℕ) → DistinctIds (ids root) → IsPathAbove root i above
     → IsSome (name_at i root) → IsStyling root (log_below i above)
