@@ -13,3 +13,5 @@ pub mod AllYes
 pub mod ValueIn
 pub mod StyleParts
 pub mod BasesOf
+pub mod RulesAt
+pub mod StyleAttribute

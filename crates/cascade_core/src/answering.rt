@@ -9,8 +9,8 @@ use port_core::{NoMemory, Seq};
 use selectors::Matched;
 use std::alloc::Global;
 
-/// Returns the answers to the conditions of the rules that matched. No conditions are read yet: each
-/// is Yes.
+/// Returns the answers to the conditions of the rules that matched. No conditions are read yet:
+/// each is Yes.
 pub fn answers<L: Drop>(
     alloc: Global,
     _book: &RuleBook,

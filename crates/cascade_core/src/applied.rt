@@ -1,4 +1,5 @@
-//! Declarations that apply to an element, and which of two is stronger (CSS Cascade 4, section 6.1).
+//! Declarations that apply to an element, and which of two is stronger (CSS Cascade 4, section
+//! 6.1).
 ghost use Rattle.cascade_core.specs.AppliedViews.{applied_view, placed};
 ghost use Rattle.cascade_core.specs.Views.{kept_view};
 ghost use Rattle.cascade_model.specs.Order as order;

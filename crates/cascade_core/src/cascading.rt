@@ -25,8 +25,8 @@ use selectors::Matched;
 use selectors_model::Spec;
 use std::alloc::Global;
 
-/// Returns the declarations that win for an element, of the rules of `book` that match it, where the
-/// answers to their conditions are Yes, and of its `style` attribute.
+/// Returns the declarations that win for an element, of the rules of `book` that match it, where
+/// the answers to their conditions are Yes, and of its `style` attribute.
 ///
 /// Time grows with the number of declarations; the values are shared.
 pub fn winning<L: Drop>(

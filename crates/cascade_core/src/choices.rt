@@ -1,5 +1,5 @@
-//! What a property gets: the value that wins, or what is inherited or initial (CSS Cascade 4, sections
-//! 4.3, 4.4 and 7).
+//! What a property gets: the value that wins, or what is inherited or initial (CSS Cascade 4,
+//! sections 4.3, 4.4 and 7).
 ghost use Rattle.cascade_core.specs.Choices.{choice_view, value_of};
 ghost use Rattle.cascade_core.specs.WinnersView.{winners_view};
 ghost use Rattle.cascade_model.specs.Defaulting as model;
@@ -22,8 +22,8 @@ pub(crate) enum Choice<'a> {
     Declared(&'a Value),
 }
 
-/// What `prop` gets: by the value that wins, or for `revert` by the one that wins among those of the
-/// user agent.
+/// What `prop` gets: by the value that wins, or for `revert` by the one that wins among those of
+/// the user agent.
 pub(crate) fn choice_for(w: &Winners, prop: Prop) -> Choice<'_>
     ensures { (parent : Option model.Style) → choice_view parent prop result
         ≡ model.choice parent (winners_view w.now) prop }
@@ -76,7 +76,8 @@ fn unset<'a>(prop: Prop) -> Choice<'a>
     }
 }
 
-/// What a value that wins gives. `currentcolor` for `color` is `inherit` (CSS Color 4, section 6.4).
+/// What a value that wins gives. `currentcolor` for `color` is `inherit` (CSS Color 4, section
+/// 6.4).
 fn choice_of_value(prop: Prop, value: &Value) -> Choice<'_>
     ensures { (parent : Option model.Style) → choice_view parent prop result
         ≡ model.choice_of_value parent prop (value_view value.now) }

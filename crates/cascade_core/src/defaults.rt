@@ -4,6 +4,7 @@ ghost use Rattle.prop_table.specs.Styles.{style_view};
 ghost use Rattle.prop_table.specs.Views.{final_view};
 ghost use Rattle.std.specs.Prelude.{◌≡◌, IfOk, length, map};
 
+use crate::shared::shared;
 use port_core::{NoMemory, Seq};
 use prop_table::{Computed, Final, Prop, Style, all_props, initial};
 use std::alloc::Global;
@@ -30,10 +31,7 @@ fn part_of_defaults(alloc: Global, props: &[Prop]) -> Result<Rc<Seq<Final>>, NoM
     for prop in props {
         part.push(default_value(alloc, *prop))?;
     }
-    match Rc::new(alloc, part) {
-        Ok(part) => Ok(part),
-        Err(_) => Err(NoMemory),
-    }
+    shared(alloc, part)
 }
 
 fn default_value(alloc: Global, prop: Prop) -> Final

@@ -1,6 +1,7 @@
 //! The rules of a book, while it is read (CSS Cascade 4, section 6.2).
 ghost use Rattle.cascade_core.specs.Views.{all_kept_view};
-ghost use Rattle.cascade_core.specs.inner.Drafts.{Adds, IsDraft, book_rule_of, book_rules_of, draft_view};
+ghost use Rattle.cascade_core.specs.inner.Drafts.{Adds, IsDraft, draft_view};
+ghost use Rattle.cascade_core.specs.inner.Drafts.{book_rule_of, book_rules_of};
 ghost use Rattle.cascade_model.specs.Books.{in_front_if};
 ghost use Rattle.selectors.specs.Views.{list_view};
 ghost use Rattle.std.specs.Prelude.{◌≡◌, ◌∷◌, [], ◌<◌, ◌≤◌, ◌+◌, OnOk, length};
@@ -41,7 +42,8 @@ pub(crate) fn add_rules(
 ) -> Result<(), NoMemory>
     requires sound { IsDraft draft.old }
     requires few { length draft.old.rules + length rules.now < 100000 }
-    ensures { OnOk result (Adds draft.old draft.new (book_rules_of origin rules.now) (length rules.now)) }
+    ensures { OnOk result
+        (Adds draft.old draft.new (book_rules_of origin rules.now) (length rules.now)) }
 {
     for rule in rules {
         add_rule(alloc, draft, origin, rule)?;
@@ -58,7 +60,8 @@ fn add_rule(
 ) -> Result<(), NoMemory>
     requires sound { IsDraft draft.old }
     requires few { length draft.old.rules < 100000 }
-    ensures { OnOk result (Adds draft.old draft.new (in_front_if (book_rule_of origin rule.now) []) 1) }
+    ensures { OnOk result
+        (Adds draft.old draft.new (in_front_if (book_rule_of origin rule.now) []) 1) }
 {
     match read_list(alloc, &rule.prelude)? {
         None => Ok(()),

@@ -4,9 +4,11 @@ ghost use Rattle.cascade_core.specs.Views.{all_kept_view};
 ghost use Rattle.cascade_model.specs.Kept as model;
 ghost use Rattle.css_rules.specs.Views.{declaration_view, declarations_view};
 ghost use Rattle.prop_table.specs.Views.{pairs_view};
-ghost use Rattle.std.specs.Prelude.{◌≡◌, ◌∷◌, [], ◌++◌, IfOk, OnOk, map, option_and_then, option_map};
+ghost use Rattle.std.specs.Prelude.{◌≡◌, ◌∷◌, [], ◌++◌, IfOk, OnOk};
+ghost use Rattle.std.specs.Prelude.{map, option_and_then, option_map};
 ghost use Rattle.value_model.specs.Grammar as grammar;
 
+use crate::shared::shared;
 use css_rules::{Declaration, Declarations};
 use port_core::{NoMemory, Seq};
 use prop_table::{Longhand, Pairs, Prop, Value, expand_shorthand, property_of_name, read_value};
@@ -58,7 +60,8 @@ fn keep_longhands(
     kept: &mut Seq<Kept>,
 ) -> Result<(), NoMemory>
     ensures { OnOk result (all_kept_view kept.new
-        ≡ all_kept_view kept.old ++ map (model.with_importance important) (pairs_view longhands.now)) }
+        ≡ all_kept_view kept.old
+        ++ map (model.with_importance important) (pairs_view longhands.now)) }
 {
     for longhand in longhands.as_slice() {
         kept.push(Kept {
@@ -68,15 +71,6 @@ fn keep_longhands(
         })?;
     }
     Ok(())
-}
-
-fn shared(alloc: Global, value: Value) -> Result<Rc<Value>, NoMemory>
-    ensures { IfOk result (λ rc. rc.value ≡ value) }
-{
-    match Rc::new(alloc, value) {
-        Ok(value) => Ok(value),
-        Err(_) => Err(NoMemory),
-    }
 }
 
 /// The values that a declaration gives to properties, if its name and its value are right.
@@ -94,7 +88,8 @@ fn longhands_of(alloc: Global, declaration: &Declaration) -> Result<Option<Pairs
 fn own_longhand(alloc: Global, declaration: &Declaration) -> Result<Option<Pairs>, NoMemory>
     ensures { IfOk result (λ ls. option_map pairs_view ls
         ≡ option_and_then
-        (λ p. option_map (λ v. (p, v) ∷ []) (grammar.value_of p (declaration_view declaration.now).value))
+        (λ p. option_map (λ v. (p, v) ∷ [])
+        (grammar.value_of p (declaration_view declaration.now).value))
         (grammar.property_of_name (declaration_view declaration.now).name)) }
 {
     let prop = match property_of_name(&declaration.name) {

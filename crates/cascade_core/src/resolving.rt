@@ -1,5 +1,5 @@
-//! The values of an element: its font size first, and then all properties (CSS Cascade 4, section 4.4;
-//! CSS Values 4, section 6.1).
+//! The values of an element: its font size first, and then all properties (CSS Cascade 4, section
+//! 4.4; CSS Values 4, section 6.1).
 ghost use Rattle.cascade_core.specs.Givens.{given_view};
 ghost use Rattle.cascade_model.specs.Defaulting as defaulting;
 ghost use Rattle.cascade_model.specs.StyleEquation as equation;
@@ -11,6 +11,7 @@ ghost use Rattle.std.specs.Prelude.{◌≡◌, IfOk, length, map, option_map};
 use crate::borders::{is_no_border, no_width, style_of_border};
 use crate::choices::{Choice, choice_for};
 use crate::given::Given;
+use crate::shared::shared;
 use port_core::{NoMemory, Seq};
 use prop_table::{Bases, Computed, Final, Keyword, Prop, Style, compute, initial};
 use std::alloc::Global;
@@ -33,10 +34,7 @@ pub(crate) fn part(
     for prop in props {
         part.push(final_value(alloc, g, own, *prop)?)?;
     }
-    match Rc::new(alloc, part) {
-        Ok(part) => Ok(part),
-        Err(_) => Err(NoMemory),
-    }
+    shared(alloc, part)
 }
 
 /// What lengths refer to in all properties but `font-size`.

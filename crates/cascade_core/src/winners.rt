@@ -13,7 +13,8 @@ use port_core::{NoMemory, Seq};
 use prop_table::Style;
 use std::alloc::Global;
 
-/// For each property the declaration that wins, and the one that wins among those of the user agent.
+/// For each property the declaration that wins, and the one that wins among those of the user
+/// agent.
 #[derive(Debug, Drop)]
 pub(crate) struct BothTables {
     pub(crate) all: Table,
