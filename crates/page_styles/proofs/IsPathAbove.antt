@@ -129,7 +129,7 @@ for-styles i (p ∷ above) work h = elim (among-two work (Match, i) (styling, i)
   | inr (inr e) ↦ ap (λ w. is_for_styles w.0) e
 ]
 
-is_match : Kind → Bool
+abbrev is_match : Kind → Bool
 is_match Match = true
 is_match other = false
 

@@ -4,13 +4,14 @@ use Rattle.std.proofs.lemmas.Bool.{cases_Bool}
 use Rattle.std.specs.List.{list_any}
 use Rattle.css_model.specs.Components.{all_tokens_of, tokens_of}
 use Rattle.css_model.specs.declared.token.Token.{Token}
-use Rattle.css_rules.specs.Views.{conditions_at, condition_view, condition_lists, declarations_view, rule_view, sheet_view, with_condition}
+use Rattle.css_rules.specs.Views.{conditions_at, condition_view, condition_lists, declaration_view, declarations_view, rule_view, sheet_view, with_condition}
+use Rattle.css_rules.specs.declared.declaration.Declaration.{Declaration}
 use Rattle.css_rules.specs.declared.sheet.Condition.{Condition}
 use Rattle.css_rules.specs.declared.sheet.Sheet.{Sheet}
 use Rattle.css_rules.specs.declared.sheet.StyleRule.{StyleRule}
 use Rattle.css_tokens.specs.Nested.{component_view, components_view}
 use Rattle.css_tokens.specs.declared.component.Component.{Component}
-use Rattle.request_model.specs.UnbuiltStyles.{has_unbuilt, is_conditional, is_unbuilt_rule, is_unbuilt_token}
+use Rattle.request_model.specs.UnbuiltStyles.{has_unbuilt, is_conditional, is_unbuilt_declaration, is_unbuilt_rule, is_unbuilt_token}
 use Rattle.rules_model.specs.Rules as rules
 use Rattle.page_styles.specs.inner.Unbuilt.{is_unbuilt_rule_of, stands_in}
 
@@ -60,7 +61,7 @@ around-conditional : (conditions : List Condition) (place : Option ℕ)
     → is_conditional (conditions_at (condition_lists conditions) place) ≡ stands_in place (length conditions)
 around-conditional conditions None = refl
 around-conditional conditions (Some place) =
-    let many : length (condition_lists conditions) ≡ length conditions = length-lists [] conditions in
+    let many : length (condition_lists conditions) ≡ 0 + length conditions = length-lists [] conditions in
     elim (cases_Bool (nat_lt place (length conditions))) [
       | inl less ↦ all-conditional [] conditions (λ p lt. absurd (omega (arith, lt))) place
           (omega (arith, many, ltb-true place (length conditions) less)) ∙ sym less
@@ -78,6 +79,12 @@ rules-unbuilt conditions (r ∷ rs) =
 pub rules_of_sheet : (s : Sheet)
     → list_any (is_unbuilt_rule_of (length s.conditions)) s.rules ≡ list_any is_unbuilt_rule (sheet_view s)
 rules_of_sheet s = sym (rules-unbuilt s.conditions s.rules)
+
+-- one of the declarations from a place on
+pub any_declared : (ds : List Declaration) (i : ℕ) (d : Declaration) → i < length ds → d ≡ get_or ds i d
+    → has_unbuilt (declarations_view (drop i ds))
+    ≡ (is_unbuilt_declaration (declaration_view d) || has_unbuilt (declarations_view (drop (i + 1) ds)))
+any_declared ds i d h is = rw (drop-cons ds i d h, ← is, add-one) refl
 
 -- ---- tokens
 

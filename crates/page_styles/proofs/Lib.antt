@@ -1,2 +1,3 @@
+pub mod ChainStyles
 pub mod IsPathAbove
 pub mod IsUnbuilt

@@ -70,6 +70,7 @@ pub fn is_unbuilt_attribute(alloc: Global, text: &str) -> Result<bool, NoMemory>
     Ok(has_unbuilt(declarations.as_slice()))
 }
 
+#[tactic(auto, using(crate::proofs::IsUnbuilt::any_declared))]
 fn has_unbuilt(declarations: &[Declaration]) -> bool
     ensures { result ≡ model.has_unbuilt (declarations_view declarations.now) }
 {

@@ -4,9 +4,9 @@ use Rattle.page_styles.specs.Paths.{IsPathAbove}
 use Rattle.page_styles.proofs.paths.path_above.Given as goal
 
 -- what is above the node so far, and then all that is above its last one
-abbrev pub invariant-loop-up : goal.invariant-loop-up
-invariant-loop-up l =
+abbrev pub invariant-up : goal.invariant-up
+invariant-up l =
     (rest : List ℕ) → IsPathAbove l.doc.document.root l.at rest → IsPathAbove l.doc.document.root l.fn.id (l.above ++ rest)
 
-abbrev pub decreases-loop-up : goal.decreases-loop-up
-decreases-loop-up l = unwrap_or (level l.at l.doc.document.root) 0
+abbrev pub decreases-up : goal.decreases-up
+decreases-up l = unwrap_or (level l.at l.doc.document.root) 0

@@ -1,0 +1,102 @@
+-- Styles from the root down.
+use Rattle.std.proofs.Common.{◌≡◌, ◌∙◌, ap, ap₂, sym, subst, refl, ◌⊎◌, ℕ, zero, suc, ◌-◌, ◌<◌, ◌==◌, ℤ, List, [], ◌∷◌, ◌++◌, append-nil, length, take, drop, slice_index_or, Bool, true, false, Option, Some, None, Result, Ok, Err, OnErr, eqb-true, arith}
+use Rattle.std.specs.Prelude.{IsSome}
+use Rattle.cascade_laws.proofs.Parentless.{parentless-root}
+use Rattle.page_model.specs.Document.{AreDistinct, Node, ids, name_at, parent_of}
+use Rattle.selectors.proofs.AncestorsOf.{parent-element}
+use Rattle.stream_model.specs.Ledger.{Event, pair, pairs}
+use Rattle.stream_model.specs.declared.kind.Kind.TheVariants.{Match}
+use Rattle.page_styles.proofs.IsPathAbove.{begun-before, begun-on}
+use Rattle.page_styles.specs.Paths.{IsPathAbove, log_below, style_below}
+use Rattle.page_styles.specs.Styles.{IsBegun}
+use Rattle.cascade_laws.specs.Styles.{root_font_size}
+use Rattle.cascade_model.specs.Defaulting.{Style, font_size_in, winners_of}
+use Rattle.cascade_model.specs.DocumentStyles.{Page, applied_to, bases_in, child_style, initial_font_size, root_style}
+use Rattle.cascade_model.specs.StyleEquation.{style_of}
+use Rattle.page_model.specs.Document.{id_of}
+use Rattle.value_model.specs.declared.length_unit.Bases.{Bases}
+
+-- the style of an element of a page, by its parent and by what lengths refer to
+abbrev pub style_by : Page → ℕ → Option Style → Bases → Style
+style_by page i parent b = style_of (record {
+  winners = winners_of (applied_to page.book page.root i);
+  parent = parent;
+  bases = b;
+})
+
+pub at-root : (page : Page) (i : ℕ) (s : Style) (parent : Option Style) (b : Bases) (e : ℤ) → s ≡ style_by page i parent b
+    → parent ≡ None → b ≡ bases_in page.viewport e e → e ≡ initial_font_size → s ≡ root_style page i
+at-root page i s parent b e h alone bases initial =
+    h ∙ (ap (λ p. style_by page i p b) alone
+    ∙ ap (style_by page i None) (bases ∙ ap (λ x. bases_in page.viewport x x) initial))
+
+pub font-of-root : (page : Page) (i : ℕ) (s : Style) (rem : ℤ) → s ≡ root_style page i → i ≡ id_of page.root
+    → rem ≡ font_size_in s → rem ≡ root_font_size page page.root
+font-of-root page i s rem is top size =
+    size ∙ (ap font_size_in is ∙ ap (λ j. font_size_in (root_style page j)) top)
+
+-- ---- one step up
+
+take-whole : (n : ℕ) (xs : List ℕ) → n ≡ length xs → take n xs ≡ xs
+take-whole zero [] h = refl
+take-whole zero (x ∷ xs) h = absurd (omega (arith, h))
+take-whole (suc n) [] h = refl
+take-whole (suc n) (x ∷ xs) h = ap (λ ys. x ∷ ys) (take-whole n xs (omega (arith, h)))
+
+-- the nearest element above, and those above it
+pub parted : (xs : List ℕ) → (length xs == 0) ≡ false → xs ≡ slice_index_or xs 0 0 ∷ take (length xs - 1) (drop 1 xs)
+parted [] h = absurd (cc)
+parted (x ∷ xs) h = ap (λ ys. x ∷ ys) (sym (take-whole (length (x ∷ xs) - 1) xs (omega arith)))
+
+none-above : (root : Node) (i : ℕ) (above : List ℕ) → IsPathAbove root i above → (length above == 0) ≡ true → parent_of i root ≡ None
+none-above root i [] path h = path
+none-above root i (p ∷ above) path h =
+    let none : length (p ∷ above) ≡ 0 = eqb-true (length (p ∷ above)) 0 h in absurd (omega (arith, none))
+
+pub top-is : (root : Node) (i : ℕ) (above : List ℕ) → IsSome (name_at i root) → IsPathAbove root i above → (length above == 0) ≡ true
+    → i ≡ id_of root
+top-is root i above named path h = parentless-root root i named (none-above root i above path h)
+
+-- the step from an element to its parent
+pub record StepUp (root : Node) (i p : ℕ) (rest above : List ℕ) : Type 0 where
+  pub parts : above ≡ p ∷ rest
+  pub path : IsPathAbove root p rest
+  pub named : IsSome (name_at p root)
+
+pub step-up : (root : Node) (i p : ℕ) (rest above : List ℕ) → AreDistinct (ids root) → above ≡ p ∷ rest → IsPathAbove root i above
+    → StepUp root i p rest above
+step-up root i p rest above d parts path =
+    let both : (parent_of i root ≡ Some p) × IsPathAbove root p rest = subst (λ xs. IsPathAbove root i xs) parts path in
+    record { parts = parts; path = both.1; named = parent-element i p root d both.0 }
+
+-- the style of a child is that below its parent
+pub child-below : (page : Page) (i p : ℕ) (rest above : List ℕ) (s : Style) (rem : ℤ) → above ≡ p ∷ rest
+    → s ≡ style_below page p rest → rem ≡ root_font_size page page.root → child_style page s rem i ≡ style_below page i above
+child-below page i p rest above s rem parts style size =
+    ap₂ (λ x e. child_style page x e i) style size ∙ ap (style_below page i) (sym parts)
+
+-- ---- work that was begun
+
+on-err : {T E : Type 0} (r : Result T E) (P : Type 0) → P → OnErr r P
+on-err (Ok x) P h = tt
+on-err (Err e) P h = h
+
+pub begun-root : {T E : Type 0} (r : Result T E) (i : ℕ) (above : List ℕ) (old new : List Event) → (length above == 0) ≡ true
+    → OnErr r ((new ≡ old) ⊎ (new ≡ old ++ pair Match i ∷ [])) → OnErr r (IsBegun (log_below i above) old new)
+begun-root (Ok x) i above old new h b = tt
+begun-root (Err e) i [] old new h b = begun-on i [] old old new (sym (append-nil old)) b
+begun-root (Err e) i (p ∷ above) old new h b =
+    let none : length (p ∷ above) ≡ 0 = eqb-true (length (p ∷ above)) 0 h in absurd (omega (arith, none))
+
+pub begun-parent : {T E : Type 0} (r : Result T E) (i p : ℕ) (rest above : List ℕ) (old new : List Event) → above ≡ p ∷ rest
+    → IsBegun (log_below p rest) old new → OnErr r (IsBegun (log_below i above) old new)
+begun-parent r i p rest above old new parts b =
+    on-err r (IsBegun (log_below i above) old new)
+    (subst (λ xs. IsBegun (log_below i xs) old new) (sym parts) (begun-before (log_below p rest) _ old new b))
+
+pub begun-child : {T E : Type 0} (r : Result T E) (i p : ℕ) (rest above : List ℕ) (old mid new : List Event) → above ≡ p ∷ rest
+    → mid ≡ old ++ pairs (log_below p rest) → OnErr r ((new ≡ mid) ⊎ (new ≡ mid ++ pair Match i ∷ []))
+    → OnErr r (IsBegun (log_below i above) old new)
+begun-child (Ok x) i p rest above old mid new parts e b = tt
+begun-child (Err x) i p rest above old mid new parts e b =
+    subst (λ xs. IsBegun (log_below i xs) old new) (sym parts) (begun-on i (log_below p rest) old mid new e b)
