@@ -1,9 +1,12 @@
 -- The way up is one, and no element stands in it twice.
-use Rattle.std.proofs.Common.{◌≡◌, ◌∙◌, ap, sym, subst, refl, inl, inr, ◌⊎◌, ℕ, suc, ◌<◌, List, [], ◌∷◌, ◌++◌, Option, Some, None, true, false, is_some, length, map, append_assoc, append-nil, Bool, arith}
+use Rattle.std.proofs.Common.{◌≡◌, ◌∙◌, ap, sym, subst, refl, inl, inr, ◌⊎◌, ℕ, suc, ◌<◌, List, [], ◌∷◌, ◌++◌, Option, Some, None, option_map, option_and_then, unwrap_or, true, false, is_some, length, map, append_assoc, append-nil, Bool, arith}
 use Rattle.std.proofs.lemmas.Bool.{false≢true}
 use Rattle.std.proofs.lemmas.List.{map-append}
 use Rattle.std.specs.Prelude.{IsSome}
-use Rattle.page_model.specs.Document.{AreDistinct as DistinctIds, Node, id_of, ids, name_at, parent_of}
+use Rattle.page_laws.proofs.Find.{find-among}
+use Rattle.page_laws.proofs.Levels.{level-child, unlevelled-absent}
+use Rattle.page_model.specs.Document.{AreDistinct as DistinctIds, Node, find, ids, name_at, name_of, parent_of}
+use Rattle.page_model.specs.Edits.{level}
 use Rattle.stream_model.specs.Ledger.{Event, Log, pair, pairs}
 use Rattle.stream_model.specs.Lists.{AreDistinct, IsAmong}
 use Rattle.stream_model.specs.declared.kind.Kind.{Kind}
@@ -79,6 +82,24 @@ named-above root i j (p ∷ above) d path (inl e) =
     subst (λ k. IsSome (name_at k root)) (sym e) (parent-element i p root d path.0)
 named-above root i j (p ∷ above) d path (inr h) =
     named-above root p j above d path.1 h
+
+-- ---- levels
+
+below-level : (o l : Option ℕ) → (o ≡ None → ⊥) → l ≡ option_map (λ k. suc k) o → unwrap_or o 0 < unwrap_or l 0
+below-level None l some is = absurd (some refl)
+below-level (Some k) l some is = rw is (omega arith)
+
+found-named : (o : Option Node) → IsSome (option_and_then name_of o) → is_some o ≡ true
+found-named None h = h
+found-named (Some n) h = refl
+
+-- a parent stands above its child
+pub higher : (root : Node) (i p : ℕ) → DistinctIds (ids root) → parent_of i root ≡ Some p
+    → unwrap_or (level p root) 0 < unwrap_or (level i root) 0
+higher root i p d up =
+    below-level (level p root) (level i root)
+    (λ none. unlevelled-absent p root none (find-among p root (found-named (find p root) (parent-element i p root d up))))
+    (level-child root i p d up)
 
 -- ---- logs
 

@@ -86,6 +86,12 @@ pub any_declared : (ds : List Declaration) (i : ℕ) (d : Declaration) → i < l
     ≡ (is_unbuilt_declaration (declaration_view d) || has_unbuilt (declarations_view (drop (i + 1) ds)))
 any_declared ds i d h is = rw (drop-cons ds i d h, ← is, add-one) refl
 
+-- one of the sheets from a place on
+pub any_sheet : (ss : List Sheet) (i : ℕ) (s : Sheet) → i < length ss → s ≡ get_or ss i s
+    → list_any (list_any is_unbuilt_rule) (map sheet_view (drop i ss))
+    ≡ (list_any is_unbuilt_rule (sheet_view s) || list_any (list_any is_unbuilt_rule) (map sheet_view (drop (i + 1) ss)))
+any_sheet ss i s h is = rw (drop-cons ss i s h, ← is, add-one) refl
+
 -- ---- tokens
 
 pub any_joined : (p : Token → Bool) (ts us : List Token) → list_any p (ts ++ us) ≡ (list_any p ts || list_any p us)

@@ -57,6 +57,7 @@ pub fn style_of_element<L: Drop>(
         IsStyleAt (page_of book.now viewport doc.now.document.root) id (styled_view s)) }
     ensures logged { LogsStyling doc.now.document.root steps.old steps.new }
 {
+    let _ = doc.root();
     let above = path_above(alloc, doc, id)?;
     let mut room = room_for(alloc, book)?;
     let from = Source {

@@ -16,6 +16,7 @@ use port_core::{NoMemory, Text};
 use std::alloc::Global;
 
 /// Returns whether a rule of a sheet stands in a condition, or has a declaration that is not built.
+#[tactic(auto, using(crate::proofs::IsUnbuilt::any_sheet))]
 pub fn any_unbuilt_rule(sheets: &[Sheet]) -> bool
     ensures { result ≡ list_any (list_any model.is_unbuilt_rule) (map sheet_view sheets.now) }
 {
