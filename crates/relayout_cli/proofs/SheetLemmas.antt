@@ -1,7 +1,7 @@
 -- The style sheets of a page, by their texts and by their rules.
-use Rattle.std.proofs.Common.{◌≡◌, ◌∙◌, ap, sym, subst, refl, ℕ, zero, suc, ◌<◌, ◌≤◌, ◌==◌, List, [], ◌∷◌, ◌++◌, Bool, true, false, not, length, length-map, map, take, drop, get_or, slice_set, arith, eqb-true, inl, inr, encode_utf8_all, ltb-false, nat_lt, Option, Some, None, is_some, Result, Ok, Err, OnOk, OnErr}
+use Rattle.std.proofs.Common.{◌≡◌, ◌∙◌, ap, sym, subst, refl, ℕ, zero, suc, ◌<◌, ◌≤◌, ◌==◌, List, [], ◌∷◌, ◌++◌, Bool, true, false, not, length, map, take, drop, get_or, slice_set, arith, eqb-true, inl, inr, encode_utf8_all, ltb-false, nat_lt, Option, Some, None, is_some, Result, Ok, Err, OnOk, OnErr}
 use Rattle.std.proofs.lemmas.Bool.{cases_Bool, false≢true}
-use Rattle.std.proofs.lemmas.List.Elements.{All-cons, All-nil}
+use Rattle.std.proofs.lemmas.List.Elements.{All-cons}
 use Rattle.std.specs.List.{All}
 use Rattle.cascade_core.specs.Books.{AreFew}
 use Rattle.css_model.specs.declared.token.TheConstants.{MAX_NESTING}
@@ -14,7 +14,7 @@ use Rattle.reply_laws.proofs.SheetLimits.{kept-with, kept-without}
 use Rattle.rules_model.specs.declared.limits.TheConstants.{MAX_SHEETS, MAX_SHEET_BYTES, MAX_STYLE_RULES}
 use Rattle.rules_model.specs.declared.sheet_limit.SheetLimit.TheVariants.{TooLarge, TooDeep, TooManyRules}
 use Rattle.std.specs.List.{list_any, remove}
-use Rattle.std.proofs.lemmas.List.{map-append, take-map, drop-map}
+use Rattle.std.proofs.lemmas.List.{length-map, map-append, take-map, drop-map}
 use Rattle.rules_model.specs.Rules.{StyleRule}
 use Rattle.rules_model.specs.Sheets.{components_of, first_limit, style_rules_of}
 use Rattle.request_model.specs.States.{are_over_sheet_limits, is_empty, is_over_sheet_limit, sheet_causes, sheets_after, sheets_with, sheets_without}
@@ -131,12 +131,12 @@ few-in-text css h =
 
 few-rules : (sheets : List Sheet) → map (length {A = StyleRule}) (kept_rules sheets) ≡ map (length {A = StyleRule}) (text_rules sheets)
     → list_any is_over_sheet_limit (texts_of sheets) ≡ false → All (λ (s : Sheet). length s.rules ≤ MAX_STYLE_RULES) sheets
-few-rules [] same none = All-nil
+few-rules [] same none = λ k d lt. absurd (omega (arith, lt))
 few-rules (s ∷ sheets) same none =
     let parts = or-false (is_over_sheet_limit s.text) (list_any is_over_sheet_limit (texts_of sheets)) none in
     let count : length s.rules ≡ length (style_rules_of s.text) =
     sym (length-map s.rules (rule_view (condition_lists s.conditions))) ∙ ap (λ (ns : List ℕ). get_or ns 0 0) same in
-    All-cons s sheets (subst (λ n. n ≤ MAX_STYLE_RULES) (sym count) (few-in-text s.text parts.0))
+    All-cons (λ (s : Sheet). length s.rules ≤ MAX_STYLE_RULES) s sheets (subst (λ n. n ≤ MAX_STYLE_RULES) (sym count) (few-in-text s.text parts.0))
     (few-rules sheets (ap (drop 1) same) parts.1)
 
 pub few-parsed : (sheets : List Sheet) → AreParsed sheets → are_over_sheet_limits (texts_of sheets) ≡ false → AreFew sheets

@@ -1,8 +1,10 @@
 -- The style of an element of a page, and why it is refused.
-use Rattle.std.proofs.Common.{◌≡◌, ◌∙◌, ap, sym, subst, refl, ℕ, List, [], ◌∷◌, ◌++◌, Bool, true, false, ◌||◌, Option, Some, None, map, option_map, is_none, is_some, append-nil, inl, inr}
-use Rattle.std.proofs.lemmas.Bool.{false≢true}
+use Rattle.std.proofs.Common.{◌≡◌, ◌∙◌, ap, sym, subst, refl, ℕ, List, [], ◌∷◌, ◌++◌, Bool, true, false, ◌||◌, Option, Some, None, map, option_map, is_none, append-nil, codes, encode_utf8_all, unwrap_or, Result, Ok, Err, OnOk, OnErr, IfOk}
+use Rattle.std.proofs.lemmas.Str.{chars_from_encodes}
 use Rattle.std.specs.List.{list_any}
+use Rattle.std.specs.Option.{option_map_or}
 use Rattle.std.specs.Prelude.{IsSome}
+use Rattle.std.specs.Str.{IsUtf8, chars}
 use Rattle.cascade_core.specs.Books.{book_view}
 use Rattle.cascade_core.specs.declared.rule_book.RuleBook.{RuleBook}
 use Rattle.cascade_laws.proofs.TreeStyles.{some-styled}
@@ -10,8 +12,9 @@ use Rattle.cascade_model.specs.Books.{book_of}
 use Rattle.cascade_model.specs.Defaulting.{Style}
 use Rattle.cascade_model.specs.DocumentStyles.{AreStyled, Page as StyledPage}
 use Rattle.css_rules.specs.declared.sheet.Sheet.{Sheet}
-use Rattle.page_model.specs.Document.{AreDistinct, Node, ids, name_at}
+use Rattle.page_model.specs.Document.{AreDistinct, Node, find, ids, name_at, value_at}
 use Rattle.page_model.specs.Pages.{Page}
+use Rattle.page_model.specs.Trees.{Text}
 use Rattle.page_model.specs.Refusals.{first_of}
 use Rattle.page_model.specs.declared.cause.Cause.{Cause}
 use Rattle.page_model.specs.declared.cause.Cause.TheVariants.{NoNode, NotBuilt, NotElement}
@@ -19,55 +22,69 @@ use Rattle.page_model.specs.declared.viewport.Viewport.{Viewport}
 use Rattle.page_styles.proofs.IsPathAbove.{style-along}
 use Rattle.page_styles.specs.Paths.{style_below}
 use Rattle.page_styles.specs.Styles.{IsStyleAt, LogsStyling, page_of}
+use Rattle.reply_model.specs.Spelling.{error_line, ok_line}
 use Rattle.reply_model.specs.StyleText.{AreStylesOf, style_lines, style_text}
 use Rattle.request_model.specs.States.{style_causes}
-use Rattle.request_model.specs.UnbuiltStyles.{has_unbuilt_attribute, has_unbuilt_rule, has_unbuilt_styles, is_unbuilt_rule}
+use Rattle.request_model.specs.UnbuiltStyles.{has_unbuilt, has_unbuilt_attribute, has_unbuilt_rule, has_unbuilt_styles, is_unbuilt_rule}
 use Rattle.rules_model.specs.Rules.{StyleRule}
-use Rattle.rules_model.specs.Sheets.{style_rules_of}
+use Rattle.rules_model.specs.Sheets.{style_attr_of, style_rules_of}
 use Rattle.selectors_model.specs.Matching.{elements_of}
 use Rattle.stream_model.specs.Ledger.{Event}
 use Rattle.relayout_cli.specs.Pages.{page_view}
 use Rattle.relayout_cli.specs.Sheets.{AreParsed, kept_rules, text_rules, texts_of}
 use Rattle.relayout_cli.specs.declared.page.Page.{Page as KeptPage}
-use Rattle.relayout_cli.specs.inner.StyleReplies.{node_causes}
+use Rattle.relayout_cli.specs.inner.StyleReplies.{AnswersStyle, AnswersStyleBy, IsStyleOf, node_causes}
 
 -- ---- causes
 
-front-cause : (a b c : Bool) → is_some (first_of ((a, NoNode) ∷ (b, NotElement) ∷ [])) ≡ true
-    → first_of ((a, NoNode) ∷ (b, NotElement) ∷ []) ≡ first_of ((a, NoNode) ∷ (b, NotElement) ∷ (c, NotBuilt) ∷ [])
-front-cause true b c h = refl
-front-cause false true c h = refl
-front-cause false false c h = absurd (false≢true h)
+front-cause : (a b c : Bool) (o : Cause) → first_of ((a, NoNode) ∷ (b, NotElement) ∷ []) ≡ Some o
+    → first_of ((a, NoNode) ∷ (b, NotElement) ∷ (c, NotBuilt) ∷ []) ≡ Some o
+front-cause true b c o h = h
+front-cause false true c o h = h
+front-cause false false c o h = absurd (cc)
 
--- a cause of the node is the first
-pub node-cause : (i : ℕ) (page : Page) (o : Option Cause) → o ≡ first_of (node_causes i page.document.root) → is_some o ≡ true
-    → o ≡ first_of (style_causes i page)
-node-cause i page o is some = is ∙ front-cause _ _ (has_unbuilt_styles page) (sym (ap is_some is) ∙ some)
-
-last-cause : (a b c : Bool) → is_some (first_of ((a, NoNode) ∷ (b, NotElement) ∷ [])) ≡ false
+last-cause : (a b c : Bool) → first_of ((a, NoNode) ∷ (b, NotElement) ∷ []) ≡ None
     → first_of ((a, NoNode) ∷ (b, NotElement) ∷ (c, NotBuilt) ∷ []) ≡ first_of ((c, NotBuilt) ∷ [])
-last-cause true b c h = absurd (false≢true (sym h))
-last-cause false true c h = absurd (false≢true (sym h))
+last-cause true b c h = absurd (cc)
+last-cause false true c h = absurd (cc)
 last-cause false false c h = refl
 
--- where the node has no cause the styles may have one
-pub styles-cause : (i : ℕ) (page : Page) (o : Option Cause) (c : Bool) → o ≡ first_of (node_causes i page.document.root) → is_some o ≡ false
-    → c ≡ has_unbuilt_styles page → first_of ((c, NotBuilt) ∷ []) ≡ first_of (style_causes i page)
-styles-cause i page o c is none unbuilt =
-    ap (λ b. first_of ((b, NotBuilt) ∷ [])) unbuilt ∙ sym (last-cause _ _ (has_unbuilt_styles page) (sym (ap is_some is) ∙ none))
+-- an id past all that were given is of no node
+pub no-node : (i : ℕ) (root : Node) → find i root ≡ None → first_of (node_causes i root) ≡ Some NoNode
+no-node i root none = ap (λ (o : Option Node). first_of ((is_none o, NoNode) ∷ (is_none (name_at i root), NotElement) ∷ [])) none
 
-named-by : (a b c : Bool) → first_of ((a, NoNode) ∷ (b, NotElement) ∷ (c, NotBuilt) ∷ []) ≡ None → b ≡ false
-named-by true b c h = absurd (cc)
-named-by false true c h = absurd (cc)
-named-by false false c h = refl
+-- a reply of a cause of the node
+pub OnOk-cause : {T E : Type 0} (r : Result T E) (i : ℕ) (page : Page) (c : Cause) (old new : List ℕ) (es : List Event)
+    → first_of (node_causes i page.document.root) ≡ Some c → OnOk r (new ≡ old ++ error_line c) → old ≡ [] → OnOk r (AnswersStyle i page new es es)
+OnOk-cause (Ok x) i page c old new es is line empty =
+    subst (λ o. AnswersStyleBy o i page new es es) (sym (front-cause _ _ (has_unbuilt_styles page) c is))
+    (line ∙ ap (λ (front : List ℕ). front ++ error_line c) empty, refl)
+OnOk-cause (Err x) i page c old new es is line empty = tt
 
-not-none : {X : Type 0} (o : Option X) → is_none o ≡ false → IsSome o
-not-none None h = absurd (false≢true (sym h))
-not-none (Some x) h = refl
+built-by : (i : ℕ) (page : Page) (b : Bool) → first_of (node_causes i page.document.root) ≡ None → has_unbuilt_styles page ≡ b
+    → first_of (style_causes i page) ≡ first_of ((b, NotBuilt) ∷ [])
+built-by i page b none is = last-cause _ _ (has_unbuilt_styles page) none ∙ ap (λ c. first_of ((c, NotBuilt) ∷ [])) is
 
--- what is not refused is an element
-pub element-by : (i : ℕ) (page : Page) → first_of (style_causes i page) ≡ None → IsSome (name_at i page.document.root)
-element-by i page none = not-none (name_at i page.document.root) (named-by _ _ _ none)
+-- the reply where styles are not built
+pub OnOk-unbuilt : {T E : Type 0} (r : Result T E) (i : ℕ) (page : Page) (b : Bool) (old new : List ℕ) (es : List Event)
+    → first_of (node_causes i page.document.root) ≡ None → b ≡ has_unbuilt_styles page → b ≡ true
+    → OnOk r (new ≡ old ++ error_line NotBuilt) → old ≡ [] → OnOk r (AnswersStyle i page new es es)
+OnOk-unbuilt (Ok x) i page b old new es none is holds line empty =
+    subst (λ o. AnswersStyleBy o i page new es es) (sym (built-by i page true none (sym is ∙ holds)))
+    (line ∙ ap (λ (front : List ℕ). front ++ error_line NotBuilt) empty, refl)
+OnOk-unbuilt (Err x) i page b old new es none is holds line empty = tt
+
+-- the reply of a style
+pub OnOk-built : {T E : Type 0} (r : Result T E) (i : ℕ) (page : Page) (b : Bool) (new : List ℕ) (es es' : List Event)
+    → first_of (node_causes i page.document.root) ≡ None → b ≡ has_unbuilt_styles page → b ≡ false
+    → OnOk r (IsStyleOf i page new) → LogsStyling page.document.root es es' → OnOk r (AnswersStyle i page new es es')
+OnOk-built (Ok x) i page b new es es' none is fails style logged =
+    subst (λ o. AnswersStyleBy o i page new es es') (sym (built-by i page false none (sym is ∙ fails))) (style, logged)
+OnOk-built (Err x) i page b new es es' none is fails style logged = tt
+
+pub OnErr-logged : {T E : Type 0} (r : Result T E) (root : Node) (es es' : List Event) → LogsStyling root es es' → OnErr r (LogsStyling root es es')
+OnErr-logged (Ok x) root es es' h = tt
+OnErr-logged (Err x) root es es' h = h
 
 -- ---- styles that are not built
 
@@ -77,6 +94,46 @@ unbuilt-by-rules page is = rw is refl
 pub unbuilt-by-attributes : (page : Page) (b : Bool) → list_any has_unbuilt_rule page.sheets ≡ false
     → b ≡ list_any (has_unbuilt_attribute page.document.root) (elements_of page.document.root) → b ≡ has_unbuilt_styles page
 unbuilt-by-attributes page b is e = rw is e
+
+pub IfOk-unbuilt : {E : Type 0} (r : Result Bool E) (page : Page) (given : List ℕ) → list_any has_unbuilt_rule page.sheets ≡ false
+    → given ≡ elements_of page.document.root → IfOk r (λ b. b ≡ list_any (has_unbuilt_attribute page.document.root) given)
+    → IfOk r (λ b. b ≡ has_unbuilt_styles page)
+IfOk-unbuilt (Ok b) page given is e h = unbuilt-by-attributes page b is (h ∙ ap (list_any (has_unbuilt_attribute page.document.root)) e)
+IfOk-unbuilt (Err x) page given is e h = tt
+
+-- ---- an attribute
+
+style-chars : chars (codes "style") ≡ codes "style"
+unfolding chars
+style-chars = refl
+
+-- whether the value of an attribute has what is not built
+abbrev unbuilt_value : Option Text → Bool
+unbuilt_value value = option_map_or (λ text. has_unbuilt (style_attr_of text)) value false
+
+unbuilt-read : (value : Option Text) (bytes : List ℕ) → IsUtf8 bytes → Some bytes ≡ option_map encode_utf8_all value
+    → has_unbuilt (style_attr_of (chars bytes)) ≡ unbuilt_value value
+unbuilt-read None bytes utf8 read = absurd (cc)
+unbuilt-read (Some cs) bytes utf8 read =
+    let same : bytes ≡ encode_utf8_all cs = ap (λ (o : Option (List ℕ)). unwrap_or o []) read in
+    ap (λ text. has_unbuilt (style_attr_of text)) (sym (chars_from_encodes cs bytes utf8 (sym same)))
+
+nothing-read : (value : Option Text) → None ≡ option_map encode_utf8_all value → false ≡ unbuilt_value value
+nothing-read None read = refl
+nothing-read (Some cs) read = absurd (cc)
+
+pub IfOk-some : {E : Type 0} (r : Result Bool E) (root : Node) (i : ℕ) (bytes : List ℕ) → IsUtf8 bytes
+    → Some bytes ≡ option_map encode_utf8_all (value_at (chars (codes "style")) i root)
+    → IfOk r (λ b. b ≡ has_unbuilt (style_attr_of (chars bytes))) → IfOk r (λ b. b ≡ has_unbuilt_attribute root i)
+IfOk-some (Ok b) root i bytes utf8 read h =
+    h ∙ (unbuilt-read (value_at (chars (codes "style")) i root) bytes utf8 read
+    ∙ ap (λ name. unbuilt_value (value_at name i root)) style-chars)
+IfOk-some (Err x) root i bytes utf8 read h = tt
+
+pub attribute-none : (root : Node) (i : ℕ) → None ≡ option_map encode_utf8_all (value_at (chars (codes "style")) i root)
+    → false ≡ has_unbuilt_attribute root i
+attribute-none root i read =
+    nothing-read (value_at (chars (codes "style")) i root) read ∙ ap (λ name. unbuilt_value (value_at name i root)) style-chars
 
 -- ---- the text of a style
 
@@ -120,6 +177,16 @@ styled-text page book i style read at d named =
       text = ap style_lines (at.2 ∙ ap (λ rules. style_below (record { book = rules; viewport = page.viewport; root = root }) i at.0) read)
           ∙ (lines-parsed page.sheets page.viewport root i at.0 page.parsed ∙ ap style_text (sym own));
     }
+
+-- the lines and `ok` were appended to nothing
+pub OnOk-style : {T E : Type 0} (r : Result T E) (page : Page) (i : ℕ) (style : Style) (old mid new : List ℕ) → StyledText page i style
+    → old ≡ [] → mid ≡ old ++ style_lines style → OnOk r (new ≡ mid ++ ok_line) → OnOk r (IsStyleOf i page new)
+OnOk-style (Ok x) page i style old mid new t empty lines line = (
+  t.styles,
+  t.are,
+  line ∙ ap (λ (front : List ℕ). front ++ ok_line) (lines ∙ (ap (λ (front : List ℕ). front ++ style_lines style) empty ∙ t.text)),
+)
+OnOk-style (Err x) page i style old mid new t empty lines line = tt
 
 pub nothing-styled : (root : Node) (es : List Event) → LogsStyling root es es
 nothing-styled root es = ([], (tt, λ work h. absurd h), sym (append-nil es))

@@ -1,10 +1,9 @@
 //! The reply to `style`.
-ghost use Rattle.std.specs.Prelude.{◌≡◌, ◌++◌, [], IfOk, IsSome, OnErr, OnOk, string_bytes};
+ghost use Rattle.std.specs.Prelude.{◌≡◌, ◌++◌, [], IfErr, IfOk, IsSome, None, OnErr, OnOk, Some, string_bytes};
 ghost use Rattle.std.specs.List.{list_any};
 ghost use Rattle.page_model.specs.Document.{name_at};
 ghost use Rattle.page_model.specs.Refusals.{first_of};
 ghost use Rattle.page_styles.specs.Styles.{LogsStyling};
-ghost use Rattle.request_model.specs.States.{style_causes};
 ghost use Rattle.request_model.specs.UnbuiltStyles.{has_unbuilt_attribute, has_unbuilt_styles};
 ghost use Rattle.relayout_cli.specs.Pages.{page_view};
 ghost use Rattle.relayout_cli.specs.inner.StyleReplies.{AnswersStyle, IsStyleOf, node_causes};
@@ -33,10 +32,15 @@ pub fn respond_style<L: Drop>(
         (AnswersStyle id (page_view page.now) (string_bytes reply.new) steps.old steps.new) }
     ensures begun { OnErr result (LogsStyling page.now.document.document.root steps.old steps.new) }
 {
-    match style_cause(alloc, page, id)? {
-        Some(cause) => push_error(reply, cause),
-        None => push_style_of(alloc, page, id as NodeId, reply, steps),
+    let node = match element_id(&page.document, id) {
+        Ok(node) => node,
+        Err(cause) => return push_error(reply, cause),
+    };
+    let unbuilt = has_unbuilt_styles(alloc, page)?;
+    if unbuilt {
+        return push_error(reply, Cause::NotBuilt);
     }
+    push_style_of(alloc, page, node, reply, steps)
 }
 
 /// Appends the reply to a style that is not refused.
@@ -52,43 +56,31 @@ fn push_style_of<L: Drop>(
     ensures style { OnOk result (IsStyleOf id (page_view page.now) (string_bytes reply.new)) }
     ensures logged { LogsStyling page.now.document.document.root steps.old steps.new }
 {
+    let _ = page.document.root();
     let book = RuleBook::read(alloc, &page.sheets)?;
     let styled = style_of_element(alloc, &page.document, &book, page.viewport, id, steps)?;
     push_style(reply, styled.style())?;
     push_ok(reply)
 }
 
-/// Returns why the style of a node is refused, if it is.
-fn style_cause(alloc: Global, page: &Page, id: u64) -> Result<Option<Cause>, NoMemory>
-    ensures { IfOk result (λ cause. cause ≡ first_of (style_causes id (page_view page.now))) }
-{
-    let cause = node_cause(&page.document, id);
-    if cause.is_some() {
-        return Ok(cause);
-    }
-    let unbuilt = has_unbuilt_styles(alloc, page)?;
-    if unbuilt {
-        Ok(Some(Cause::NotBuilt))
-    } else {
-        Ok(None)
-    }
-}
-
-/// Returns why a node has no style, if it has none.
-fn node_cause(doc: &Doc, id: u64) -> Option<Cause>
-    ensures { result ≡ first_of (node_causes id doc.now.document.root) }
+/// Returns the element with this id, or why there is none.
+fn element_id(doc: &Doc, id: u64) -> Result<NodeId, Cause>
+    ensures id { IfOk result (λ node. node ≡ id) }
+    ensures element { OnOk result (IsSome (name_at id doc.now.document.root)) }
+    ensures allowed { OnOk result (first_of (node_causes id doc.now.document.root) ≡ None) }
+    ensures refused { IfErr result (λ cause. first_of (node_causes id doc.now.document.root) ≡ Some cause) }
 {
     if id >= doc.next_id() as u64 {
-        return Some(Cause::NoNode);
+        return Err(Cause::NoNode);
     }
-    let id = id as NodeId;
-    if !doc.is_live(id) {
-        return Some(Cause::NoNode);
+    let node = id as NodeId;
+    if !doc.is_live(node) {
+        return Err(Cause::NoNode);
     }
-    if doc.tag(id).is_none() {
-        return Some(Cause::NotElement);
+    if doc.tag(node).is_none() {
+        return Err(Cause::NotElement);
     }
-    None
+    Ok(node)
 }
 
 /// Returns whether styles of a page are not built yet.
