@@ -116,7 +116,7 @@ among-two x a b (y ∷ xs) (inr h) = elim (among-two x a b xs h) [
 
 distinct-two : {X : Type 0} (a b : X) (xs : List X) → AreDistinct xs → (IsAmong a xs → ⊥) → (IsAmong b xs → ⊥)
     → (a ≡ b → ⊥) → AreDistinct (xs ++ a ∷ b ∷ [])
-distinct-two a b [] d na nb n = ((λ h. elim h [ | inl e ↦ n e | inr k ↦ k ]), ((λ h. h), tt))
+distinct-two a b [] d na nb n = ((λ h. elim h [ inl e ↦ n e | inr k ↦ k ]), ((λ h. h), tt))
 distinct-two a b (x ∷ xs) d na nb n = (
   (λ h. elim (among-two x a b xs h) [
     | inl k ↦ d.0 k
@@ -133,9 +133,9 @@ on-path i [] work (inr (inl e)) = inl (ap (λ w. w.1) e)
 on-path i [] work (inr (inr h)) = absurd h
 on-path i (p ∷ above) work h = elim (among-two work (Match, i) (styling, i) (log_below p above) h) [
   | inl k ↦ elim (on-path p above work k) [
-      | inl e ↦ inr (inl e)
-      | inr m ↦ inr (inr m)
-    ]
+    | inl e ↦ inr (inl e)
+    | inr m ↦ inr (inr m)
+  ]
   | inr (inl e) ↦ inl (ap (λ w. w.1) e)
   | inr (inr e) ↦ inl (ap (λ w. w.1) e)
 ]
@@ -161,7 +161,7 @@ log-distinct : (root : Node) (i : ℕ) (above : List ℕ) → IsPathAbove root i
 log-distinct root i [] path = distinct-two (Match, i) (styling, i) [] tt (λ h. h) (λ h. h) (match≢style (Match, i) (styling, i) refl refl)
 log-distinct root i (p ∷ above) path =
     let apart : (k : Kind) → IsAmong (k, i) (log_below p above) → ⊥ =
-        λ k h. not-above root i (p ∷ above) path (elim (on-path p above (k, i) h) [ | inl e ↦ inl e | inr m ↦ inr m ]) in
+    λ k h. not-above root i (p ∷ above) path (elim (on-path p above (k, i) h) [ inl e ↦ inl e | inr m ↦ inr m ]) in
     distinct-two (Match, i) (styling, i) (log_below p above) (log-distinct root p above path.1)
     (apart Match) (apart styling) (match≢style (Match, i) (styling, i) refl refl)
 

@@ -309,14 +309,14 @@ response-style page i reply old new None is h =
     record {
       work = log;
       response = λ setting from at. (
-          from,
-          at-turn setting from from (Some (page_view page)) (request (query (Style i))) (log ∷ []) reply (accepted (query (Style i))) at
-          (ap (answer_by (query (Style i))) (refusal-built (Some (page_view page)) (query (Style i)) refl ∙ is)) (
-            subst (λ (s : State). IsQueryReply s setting from (Style i) (log ∷ []) reply) (sym at)
-            (h.0.0, h.0.1, (log, subst (λ (s : State). IsStyleLog s log) (sym at) styling, ([], refl, refl)), h.0.2),
-            refl,
-          ),
-          at,
+        from,
+        at-turn setting from from (Some (page_view page)) (request (query (Style i))) (log ∷ []) reply (accepted (query (Style i))) at
+            (ap (answer_by (query (Style i))) (refusal-built (Some (page_view page)) (query (Style i)) refl ∙ is)) (
+              subst (λ (s : State). IsQueryReply s setting from (Style i) (log ∷ []) reply) (sym at)
+                  (h.0.0, h.0.1, (log, subst (λ (s : State). IsStyleLog s log) (sym at) styling, ([], refl, refl)), h.0.2),
+              refl,
+            ),
+        at,
       );
       works = record { once = h.1.1.0; within = λ e. absurd (cc); logged = h.1.2 };
     }

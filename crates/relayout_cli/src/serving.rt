@@ -126,7 +126,8 @@ fn begin_log<L: Drop>(asked: &Asked, steps: &mut Steps<L>)
     ensures { steps.new ≡ steps.old ++ events (empty_logs (logs_of_asked (asked_view asked.now))) }
 {
     match asked {
-        Asked::Request(Request::Edit(_) | Request::Query(Query::Dump | Query::Style(_))) => steps.mark(),
+        Asked::Request(Request::Edit(_) | Request::Query(Query::Dump | Query::Style(_))) =>
+            steps.mark(),
         _ => {}
     }
 }

@@ -28,12 +28,7 @@ pub(crate) fn push_containment(reply: &mut String, c: Containment) -> Result<(),
 
 /// Appends a word where it `holds`, after a space unless it is the first. Returns whether there is
 /// no word still.
-fn push_word_if(
-    reply: &mut String,
-    none: bool,
-    holds: bool,
-    word: &str,
-) -> Result<bool, NoMemory>
+fn push_word_if(reply: &mut String, none: bool, holds: bool, word: &str) -> Result<bool, NoMemory>
     ensures word { OnOk result (string_bytes reply.new
         ≡ string_bytes reply.old ++ word_after none holds word.now) }
     ensures none { IfOk result (λ left. left ≡ (none && not holds)) }
