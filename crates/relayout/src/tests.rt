@@ -6,6 +6,7 @@ mod names;
 mod order;
 mod replies;
 mod sheets;
+mod styles;
 
 use port_core::{MemSink, MemSource, NoMemory, Steps};
 use relayout_cli::{Status, run};

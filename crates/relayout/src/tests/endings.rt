@@ -113,7 +113,7 @@ fn statuses_have_their_numbers(rt: HostRuntime) {
 fn pairs_after(alloc: Global, script: &[u8]) -> Result<u64, NoMemory> {
     let words = words(alloc, 0)?;
     let mut source = MemSource::new(alloc, script, 1000, None)?;
-    let mut sink = MemSink::new(alloc, 1000)?;
+    let mut sink = MemSink::new(alloc, 2000)?;
     let mut steps = Steps::new(());
     steps.tick(Kind::Match, 0);
     let _status = ending(run(alloc, words.as_slice(), &mut source, &mut sink, &mut steps))?;
@@ -121,10 +121,22 @@ fn pairs_after(alloc: Global, script: &[u8]) -> Result<u64, NoMemory> {
 }
 
 #[test]
-fn edits_mark_the_ledger(rt: HostRuntime) -> Result<(), Fail> {
-    let queries = pairs_after(rt.alloc(), b"\n{\"do\":\"dump\"}\n{\n{\"do\":\"resize\"}\n")?;
-    assert_eq!(rt; queries, 1);
+fn edits_dumps_and_styles_mark_the_ledger(rt: HostRuntime) -> Result<(), Fail> {
+    let others = pairs_after(
+        rt.alloc(),
+        b"\n{\"do\":\"rules\"}\n{\n{\"do\":\"resize\"}\n",
+    )?;
+    assert_eq!(rt; others, 1);
     let refused = pairs_after(rt.alloc(), br#"{"do":"remove","id":0}"#)?;
     assert_eq!(rt; refused, 0);
+    let dump = pairs_after(rt.alloc(), br#"{"do":"dump"}"#)?;
+    assert_eq!(rt; dump, 0);
+    // The root and the element itself are matched.
+    let style = pairs_after(
+        rt.alloc(),
+        br#"{"do":"load","width":1,"height":1,"doc":["div",["p"],["q"]]}
+{"do":"style","id":1}"#,
+    )?;
+    assert_eq!(rt; style, 2);
     Ok(())
 }
