@@ -1,0 +1,3 @@
+pub mod Calculations
+pub mod CalculationGrammar
+pub mod inner
