@@ -72,6 +72,7 @@ fn name_of(asked: &Asked) -> &'static str {
         Asked::Request(Request::Query(Query::Dump)) => "dump",
         Asked::Request(Request::Query(Query::Rules)) => "rules",
         Asked::Request(Request::Query(Query::Match(text))) => name_of_match(text),
+        Asked::Request(Request::Query(Query::Style(id))) => name_of_style(*id),
         Asked::Request(Request::Edit(edit)) => name_of_edit(edit),
     }
 }
@@ -82,6 +83,15 @@ fn name_of_match(selector: &Text) -> &'static str {
         "match of a > b"
     } else {
         "another match"
+    }
+}
+
+/// Returns whether the style of node 7 is asked for.
+fn name_of_style(id: u64) -> &'static str {
+    if id == 7 {
+        "style of 7"
+    } else {
+        "another style"
     }
 }
 
@@ -133,6 +143,7 @@ fn lines_ask(rt: HostRuntime) -> Result<(), Fail> {
     expect_asked(&rt, rt.alloc(), NO_SHEET, "sheet of null")?;
     expect_asked(&rt, rt.alloc(), br#"{"do":"rules"}"#, "rules")?;
     expect_asked(&rt, rt.alloc(), MATCH, "match of a > b")?;
+    expect_asked(&rt, rt.alloc(), br#"{"id":7,"do":"style"}"#, "style of 7")?;
     Ok(())
 }
 
@@ -160,6 +171,7 @@ fn lines_are_refused(rt: HostRuntime) -> Result<(), Fail> {
         Cause::BadRequest,
     )?;
     expect_broken(&rt, rt.alloc(), br#"{"do":"match"}"#, Cause::BadRequest)?;
+    expect_broken(&rt, rt.alloc(), br#"{"do":"style"}"#, Cause::BadRequest)?;
     expect_broken(
         &rt,
         rt.alloc(),
