@@ -7,7 +7,7 @@ use Rattle.css_model.specs.Components.{Components}
 use Rattle.page_model.specs.Attributes.{is_same_text}
 use Rattle.page_laws.proofs.Options.{none-or-some}
 use Rattle.custom_model.specs.Cycles.{refers, IsOnCycle}
-use Rattle.custom_model.specs.Environments.{Given, IsEntry, entry_of_declared, entry_of_substituted}
+use Rattle.custom_model.specs.Environments.{EnvironmentGiven, IsEntry, entry_of_declared, entry_of_substituted}
 use Rattle.custom_model.specs.NamedValues.{NamedValues, value_named}
 use Rattle.custom_model.specs.References.{names_in}
 use Rattle.custom_model.specs.Substitution.{Entries}
@@ -32,7 +32,7 @@ same-declared e f parent value a = ap (entry_of_substituted parent) (same-substi
 
 -- ---- two environments
 
-module _ (g : Given) (environment other : NamedValues)
+module _ (g : EnvironmentGiven) (environment other : NamedValues)
     (first : (name : Text) → IsEntry g environment name) (second : (name : Text) → IsEntry g other name) where
   -- a name to which another refers
   below : (name to : Text) → refers g.declared name to ≡ true
@@ -76,12 +76,12 @@ module _ (g : Given) (environment other : NamedValues)
 
 -- ---- two numbers of substitutions
 
-pub entry-on-cycle : (n : ℕ) (g : Given) (name : Text) → is_on_cycle g.declared name ≡ true
+pub entry-on-cycle : (n : ℕ) (g : EnvironmentGiven) (name : Text) → is_on_cycle g.declared name ≡ true
     → entry_within n g name ≡ value_named g.inherited name
 entry-on-cycle zero g name t = refl
 entry-on-cycle (suc n) g name t = rw t refl
 
-pub entry-not-declared : (n : ℕ) (g : Given) (name : Text) → value_named g.declared name ≡ None
+pub entry-not-declared : (n : ℕ) (g : EnvironmentGiven) (name : Text) → value_named g.declared name ≡ None
     → entry_within n g name ≡ value_named g.inherited name
 entry-not-declared zero g name d = refl
 entry-not-declared (suc n) g name d = elim (cases_Bool (is_on_cycle g.declared name)) [
@@ -89,13 +89,13 @@ entry-not-declared (suc n) g name d = elim (cases_Bool (is_on_cycle g.declared n
   | inr f ↦ rw (f, d) refl
 ]
 
-pub entry-declared : (n : ℕ) (g : Given) (name : Text) (value : Components) → is_on_cycle g.declared name ≡ false
+pub entry-declared : (n : ℕ) (g : EnvironmentGiven) (name : Text) (value : Components) → is_on_cycle g.declared name ≡ false
     → value_named g.declared name ≡ Some value
     → entry_within (suc n) g name ≡ entry_of_declared (entry_within n g) (value_named g.inherited name) value
 entry-declared n g name value f d = rw f (ap (entry_of_named (entry_within n g) (value_named g.inherited name)) d)
 
 -- a name to which another refers, where those of lower rank have the same entries
-pub stable-below : (m n : ℕ) (g : Given) (name to : Text) → refers g.declared name to ≡ true
+pub stable-below : (m n : ℕ) (g : EnvironmentGiven) (name to : Text) → refers g.declared name to ≡ true
     → ((to : Text) → rank g.declared to < rank g.declared name → entry_within m g to ≡ entry_within n g to)
     → entry_within m g to ≡ entry_within n g to
 stable-below m n g name to h lower = elim (cases_Bool (is_on_cycle g.declared to)) [
@@ -107,7 +107,7 @@ stable-below m n g name to h lower = elim (cases_Bool (is_on_cycle g.declared to
 ]
 
 -- more substitutions than a name has rank change nothing
-pub entry-stable : (m n : ℕ) (g : Given) (name : Text) → rank g.declared name < m → rank g.declared name < n
+pub entry-stable : (m n : ℕ) (g : EnvironmentGiven) (name : Text) → rank g.declared name < m → rank g.declared name < n
     → entry_within m g name ≡ entry_within n g name
 entry-stable zero n g name l k = absurd (omega (arith, l))
 entry-stable (suc m) zero g name l k = absurd (omega (arith, k))

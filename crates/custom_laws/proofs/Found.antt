@@ -7,10 +7,10 @@ use Rattle.css_model.specs.Components.{Components}
 use Rattle.page_model.specs.Attributes.{is_same_text}
 use Rattle.page_laws.proofs.Options.{none-or-some, or-false}
 use Rattle.custom_model.specs.Cycles.{IsOnCycle}
-use Rattle.custom_model.specs.Environments.{Given, IsEntry, IsEnvironment}
+use Rattle.custom_model.specs.Environments.{EnvironmentGiven, IsEntry, IsEnvironment}
 use Rattle.custom_model.specs.NamedValues.{NamedValues, value_named, names_of}
 use Rattle.custom_model.specs.References.{names_in}
-use Rattle.custom_model.specs.inner.Finding.{is_on_cycle, entry_within, entry_of, in_order, environment_of}
+use Rattle.custom_model.specs.inner.Finding.{is_on_cycle, entry_within, entry_of, ordered_names, environment_of}
 use Rattle.custom_laws.proofs.Entries.{entry-declared, entry-not-declared, entry-on-cycle, entry-stable, refers-in, same-declared, same-entries, stable-below}
 use Rattle.custom_laws.proofs.Ordered.{any-in-order, entries-in-order, entry-found, entry-missing, names-in-order, same-list}
 use Rattle.custom_laws.proofs.Ranks.{rank-at-most}
@@ -40,8 +40,8 @@ not-among-named values name h = elim (none-or-some (value_named values name)) [
 
 -- ---- the entries
 
-not-among-entry : (g : Given) (name : Text)
-    → list_any (is_same_text name) (in_order (names_of (g.declared ++ g.inherited))) ≡ false → entry_of g name ≡ None
+not-among-entry : (g : EnvironmentGiven) (name : Text)
+    → list_any (is_same_text name) (ordered_names (names_of (g.declared ++ g.inherited))) ≡ false → entry_of g name ≡ None
 not-among-entry g name h =
     let all : list_any (is_same_text name) (names_of (g.declared ++ g.inherited)) ≡ false =
     sym (any-in-order name (names_of (g.declared ++ g.inherited))) ∙ h in
@@ -51,16 +51,16 @@ not-among-entry g name h =
     entry-not-declared (suc (length g.declared)) g name (not-among-named g.declared name parts.0)
     ∙ not-among-named g.inherited name parts.1
 
-pub entry-is : (g : Given) (name : Text) → value_named (environment_of g) name ≡ entry_of g name
-entry-is g name = elim (cases_Bool (list_any (is_same_text name) (in_order (names_of (g.declared ++ g.inherited))))) [
-  | inl t ↦ entry-found (entry_of g) (in_order (names_of (g.declared ++ g.inherited))) name t
+pub entry-is : (g : EnvironmentGiven) (name : Text) → value_named (environment_of g) name ≡ entry_of g name
+entry-is g name = elim (cases_Bool (list_any (is_same_text name) (ordered_names (names_of (g.declared ++ g.inherited))))) [
+  | inl t ↦ entry-found (entry_of g) (ordered_names (names_of (g.declared ++ g.inherited))) name t
   | inr f ↦
-      entry-missing (entry_of g) (in_order (names_of (g.declared ++ g.inherited))) name f
+      entry-missing (entry_of g) (ordered_names (names_of (g.declared ++ g.inherited))) name f
       ∙ sym (not-among-entry g name f)
 ]
 
 -- a name to which a name refers has its entry with one substitution less
-less-is : (g : Given) (name to : Text) (value : Components) → value_named g.declared name ≡ Some value
+less-is : (g : EnvironmentGiven) (name to : Text) (value : Components) → value_named g.declared name ≡ Some value
     → list_any (is_same_text to) (names_in value) ≡ true
     → entry_within (length g.declared) g to ≡ entry_of g to
 less-is g name to value d h =
@@ -68,7 +68,7 @@ less-is g name to value d h =
     let most = rank-at-most g.declared name in
     entry-stable (length g.declared) (suc (length g.declared)) g m (omega (arith, most, less)) (omega (arith, most, less)))
 
-pub entry-is-right : (g : Given) (name : Text) → IsEntry g (environment_of g) name
+pub entry-is-right : (g : EnvironmentGiven) (name : Text) → IsEntry g (environment_of g) name
 entry-is-right g name = record {
   not_declared = λ d. entry-is g name ∙ entry-not-declared (suc (length g.declared)) g name d;
   on_cycle = λ c. entry-is g name ∙ entry-on-cycle (suc (length g.declared)) g name ((cycle-both g.declared name).1 c);
@@ -85,15 +85,15 @@ entry-is-right g name = record {
       | inr f ↦ f
     ]
 
-pub found-environment : (g : Given) → IsEnvironment g (environment_of g)
+pub found-environment : (g : EnvironmentGiven) → IsEnvironment g (environment_of g)
 found-environment g = record {
   in_order =
-      entries-in-order (entry_of g) (in_order (names_of (g.declared ++ g.inherited)))
+      entries-in-order (entry_of g) (ordered_names (names_of (g.declared ++ g.inherited)))
       (names-in-order (names_of (g.declared ++ g.inherited)));
   entries = entry-is-right g;
 }
 
-pub one-environment : (g : Given) (environment other : NamedValues) → IsEnvironment g environment → IsEnvironment g other
+pub one-environment : (g : EnvironmentGiven) (environment other : NamedValues) → IsEnvironment g environment → IsEnvironment g other
     → environment ≡ other
 one-environment g environment other e f =
     same-list environment other e.in_order f.in_order (same-entries g environment other e.entries f.entries)

@@ -10,7 +10,7 @@ use Rattle.page_laws.proofs.AttributesInOrder.{same-text, text-same, less-or-mor
 use Rattle.page_laws.proofs.Options.{both-true, none-or-some, or-false}
 use Rattle.custom_model.specs.NamedValues.{NamedValues, value_named, names_of, are_in_order}
 use Rattle.custom_model.specs.Substitution.{Entries}
-use Rattle.custom_model.specs.inner.Finding.{with_name, in_order, entries_of}
+use Rattle.custom_model.specs.inner.Finding.{with_name, ordered_names, entries_of}
 
 -- ---- order
 
@@ -65,9 +65,9 @@ order-with name (n ∷ names) h = elim (cases_Bool (is_same_text name n)) [
   ]
 ]
 
-pub names-in-order : (names : List Text) → are_in_order (in_order names) ≡ true
+pub names-in-order : (names : List Text) → are_in_order (ordered_names names) ≡ true
 names-in-order [] = refl
-names-in-order (n ∷ names) = order-with n (in_order names) (names-in-order names)
+names-in-order (n ∷ names) = order-with n (ordered_names names) (names-in-order names)
 
 or-again : (a b : Bool) → (a || b) ≡ (a || (a || b))
 or-again true b = refl
@@ -94,10 +94,10 @@ any-with name n (m ∷ names) = elim (cases_Bool (is_same_text n m)) [
 ]
 
 pub any-in-order : (name : Text) (names : List Text)
-    → list_any (is_same_text name) (in_order names) ≡ list_any (is_same_text name) names
+    → list_any (is_same_text name) (ordered_names names) ≡ list_any (is_same_text name) names
 any-in-order name [] = refl
 any-in-order name (n ∷ names) =
-    any-with name n (in_order names) ∙ ap (λ x. is_same_text name n || x) (any-in-order name names)
+    any-with name n (ordered_names names) ∙ ap (λ x. is_same_text name n || x) (any-in-order name names)
 
 -- ---- entries of names in order
 

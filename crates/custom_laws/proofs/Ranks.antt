@@ -39,7 +39,7 @@ count-more test other (n ∷ names) h =
       ]
     ]
 
--- and one of the names passes the other alone
+-- and one of the names passes the other one_component
 count-less : (test other : Text → Bool) (names : List Text) (m : Text) → ((n : Text) → test n ≡ true → other n ≡ true)
     → list_any (is_same_text m) names ≡ true → test m ≡ false → other m ≡ true
     → count test names < count other names

@@ -9,7 +9,7 @@ use Rattle.page_model.specs.Attributes.{is_same_text}
 use Rattle.page_laws.proofs.AttributesInOrder.{same-text, text-same}
 use Rattle.page_laws.proofs.Options.{none-or-some, true-or-right}
 use Rattle.custom_model.specs.Cycles.{refers, IsReached, directly, through, IsOnCycle}
-use Rattle.custom_model.specs.Environments.{Given, IsEntry, IsEnvironment, entry_of_declared}
+use Rattle.custom_model.specs.Environments.{EnvironmentGiven, IsEntry, IsEnvironment, entry_of_declared}
 use Rattle.custom_model.specs.NamedValues.{NamedValues, value_named, names_of}
 use Rattle.custom_model.specs.References.{names_in}
 use Rattle.custom_laws.specs.Reordered.{AreDistinct, AreReordered, IsAmong}
@@ -67,7 +67,7 @@ same-values values others r name = elim (none-or-some (value_named values name))
       s.1 ∙ sym (among-value (name, s.0) others r.distinct_second there)
 ]
 
--- ---- what is found by names alone
+-- ---- what is found by names one_component
 
 same-refers : (values others : NamedValues) → ((name : Text) → value_named values name ≡ value_named others name)
     → (from to : Text) → refers values from to ≡ refers others from to
@@ -88,7 +88,7 @@ same-cycles values others name r =
       same-reached others values (λ n. sym (same n)) name name,
     )
 
-same-entry : (g h : Given) (environment : NamedValues)
+same-entry : (g h : EnvironmentGiven) (environment : NamedValues)
     → ((name : Text) → value_named g.declared name ≡ value_named h.declared name)
     → ((name : Text) → value_named g.inherited name ≡ value_named h.inherited name)
     → (name : Text) → IsEntry g environment name → IsEntry h environment name
@@ -100,7 +100,7 @@ same-entry g h environment declared inherited name e = record {
       ∙ ap (λ parent. entry_of_declared (value_named environment) parent value) (inherited name);
 }
 
-pub same-environment : (g h : Given) (environment : NamedValues)
+pub same-environment : (g h : EnvironmentGiven) (environment : NamedValues)
     → AreReordered g.declared h.declared → AreReordered g.inherited h.inherited
     → IsEnvironment g environment → IsEnvironment h environment
 same-environment g h environment d i e = record {

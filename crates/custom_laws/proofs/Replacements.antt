@@ -7,20 +7,19 @@ use Rattle.std.proofs.lemmas.Bool.Decides.{nat_tests}
 use Rattle.std.proofs.lemmas.Option.{none-some, same_Some}
 use Rattle.css_model.specs.declared.token.TheConstants.{MAX_NESTING}
 use Rattle.css_model.specs.declared.token.Token.{Token}
-use Rattle.css_model.specs.declared.token.TokenType.{TokenType}
-use Rattle.css_model.specs.declared.token.TokenType.TheVariants.{Comma}
 use Rattle.css_model.specs.Classes.{Text}
 use Rattle.css_model.specs.Components.{Component, preserved, simple_block, function_block, Components, no_components, component}
 use Rattle.page_model.specs.Attributes.{is_same_text}
 use Rattle.page_laws.proofs.AttributesInOrder.{text-same}
 use Rattle.page_laws.proofs.Options.{true-or-right}
-use Rattle.rules_model.specs.ComponentLists.{ident_of_type, is_whitespace, is_whitespace_type}
+use Rattle.rules_model.specs.ComponentLists.{is_whitespace}
 use Rattle.custom_model.specs.declared.limits.TheConstants.{MAX_SUBSTITUTED_TOKENS}
-use Rattle.custom_model.specs.References.{Reference, custom_name_of, is_comma, is_comma_type, is_custom_name, is_declaration_value, is_var_type, names_in, reference_in, reference_to, vars_in, all_vars_in, has_var}
-use Rattle.custom_model.specs.Substitution.{if_within, Entries, alone, entry_of_reference, replacement_of, replacement_of_all, replacement_of_fallback, both_followed, substituted}
-use Rattle.custom_laws.specs.Agreement.{AreAgreed}
+use Rattle.custom_model.specs.References.{Reference, custom_name_of, is_comma, is_declaration_value, is_var_type, names_in, reference_in, reference_to, vars_in, all_vars_in, has_var}
+use Rattle.custom_model.specs.Substitution.{if_within, Entries, one_component, entry_of_reference, replacement_of, replacement_of_all, replacement_of_fallback, both_followed, substituted}
+use Rattle.custom_laws.proofs.CommaTypes.{name-no-comma, space-no-comma}
+use Rattle.custom_laws.specs.SameEntries.{AreSameOn}
 
--- ---- by the entries of the names alone
+-- ---- by the entries of the names one_component
 
 -- the same stands for what each of these refers to
 abbrev Agree : Entries → Entries → List Components → Type 0
@@ -41,12 +40,12 @@ same-function : (is_var : Bool) (e f : Entries) (head : Token) (contents : Compo
     → (Agree e f (all_vars_in contents) → replacement_of_fallback e contents ≡ replacement_of_fallback f contents)
     → Agree e f (if is_var then contents ∷ all_vars_in contents else all_vars_in contents)
     → (if is_var then option_or (entry_of_reference e contents) (replacement_of_fallback e contents)
-    else option_map (λ cs. alone (function_block head cs close)) (replacement_of_all e contents))
+    else option_map (λ cs. one_component (function_block head cs close)) (replacement_of_all e contents))
     ≡ (if is_var then option_or (entry_of_reference f contents) (replacement_of_fallback f contents)
-    else option_map (λ cs. alone (function_block head cs close)) (replacement_of_all f contents))
+    else option_map (λ cs. one_component (function_block head cs close)) (replacement_of_all f contents))
 same-function true e f head contents close all fallback a = ap₂ option_or a.0 (fallback a.1)
 same-function false e f head contents close all fallback a =
-    ap (option_map (λ cs. alone (function_block head cs close))) (all a)
+    ap (option_map (λ cs. one_component (function_block head cs close))) (all a)
 
 -- what is after a component in the contents, where this says whether it is a `,`
 same-after : (comma : Bool) (a b c d : Option Components) → a ≡ b → c ≡ d
@@ -58,7 +57,7 @@ mutual
   same-one : (e f : Entries) (c : Component) → Agree e f (vars_in c) → replacement_of e c ≡ replacement_of f c
   same-one e f (preserved t) a = refl
   same-one e f (simple_block head contents close) a =
-      ap (option_map (λ cs. alone (simple_block head cs close))) (same-all e f contents a)
+      ap (option_map (λ cs. one_component (simple_block head cs close))) (same-all e f contents a)
   same-one e f (function_block head contents close) a =
       same-function (is_var_type head.token_type) e f head contents close
       (same-all e f contents) (same-fallback e f contents) a
@@ -83,13 +82,13 @@ mutual
 
 -- the same stands for what one of these refers to
 agree-one : (e f : Entries) (o : Option Reference) (names : List Text)
-    → AreAgreed e f (cons_option (option_map (λ r. r.name) o) names)
+    → AreSameOn e f (cons_option (option_map (λ r. r.name) o) names)
     → option_and_then (λ r. e r.name) o ≡ option_and_then (λ r. f r.name) o
 agree-one e f None names a = refl
 agree-one e f (Some r) names a = a r.name (rw (text-same r.name) refl)
 
 agree-others : (e f : Entries) (o : Option Text) (names : List Text)
-    → AreAgreed e f (cons_option o names) → AreAgreed e f names
+    → AreSameOn e f (cons_option o names) → AreSameOn e f names
 agree-others e f None names a = a
 agree-others e f (Some n) names a = λ name h. a name (true-or-right (is_same_text name n) (list_any (is_same_text name) names) h)
 
@@ -97,18 +96,18 @@ agree-others e f (Some n) names a = λ name h. a name (true-or-right (is_same_te
 abbrev name_of : Components → Option Text
 name_of contents = option_map (λ r. r.name) (reference_in contents)
 
-agree-all : (e f : Entries) (vars : List Components) → AreAgreed e f (filter_map name_of vars) → Agree e f vars
+agree-all : (e f : Entries) (vars : List Components) → AreSameOn e f (filter_map name_of vars) → Agree e f vars
 agree-all e f [] a = tt
 agree-all e f (contents ∷ vars) a = (
   agree-one e f (reference_in contents) (filter_map name_of vars) a,
   agree-all e f vars (agree-others e f (name_of contents) (filter_map name_of vars) a),
 )
 
-pub same-replacement : (e f : Entries) (value : Components) → AreAgreed e f (names_in value)
+pub same-replacement : (e f : Entries) (value : Components) → AreSameOn e f (names_in value)
     → replacement_of_all e value ≡ replacement_of_all f value
 same-replacement e f value a = same-all e f value (agree-all e f (all_vars_in value) a)
 
-pub same-substituted : (e f : Entries) (value : Components) → AreAgreed e f (names_in value)
+pub same-substituted : (e f : Entries) (value : Components) → AreSameOn e f (names_in value)
     → substituted e value ≡ substituted f value
 same-substituted e f value a =
     ap (λ o. if has_var value then option_and_then (if_within MAX_SUBSTITUTED_TOKENS MAX_NESTING) o else Some value)
@@ -126,18 +125,18 @@ kept-function : (is_var : Bool) (e : Entries) (head : Token) (contents : Compone
     → (nat_lt 0 (length (all_vars_in contents)) ≡ false → replacement_of_all e contents ≡ Some contents)
     → nat_lt 0 (length (if is_var then contents ∷ all_vars_in contents else all_vars_in contents)) ≡ false
     → (if is_var then option_or (entry_of_reference e contents) (replacement_of_fallback e contents)
-    else option_map (λ cs. alone (function_block head cs close)) (replacement_of_all e contents))
-    ≡ Some (alone (function_block head contents close))
+    else option_map (λ cs. one_component (function_block head cs close)) (replacement_of_all e contents))
+    ≡ Some (one_component (function_block head contents close))
 kept-function true e head contents close all h = absurd (false≢true (sym h ∙ grind (arith, nat_tests)))
 kept-function false e head contents close all h =
-    ap (option_map (λ cs. alone (function_block head cs close))) (all h)
+    ap (option_map (λ cs. one_component (function_block head cs close))) (all h)
 
 mutual
   kept-one : (e : Entries) (c : Component) → nat_lt 0 (length (vars_in c)) ≡ false
-      → replacement_of e c ≡ Some (alone c)
+      → replacement_of e c ≡ Some (one_component c)
   kept-one e (preserved t) h = refl
   kept-one e (simple_block head contents close) h =
-      ap (option_map (λ cs. alone (simple_block head cs close))) (kept-all e contents h)
+      ap (option_map (λ cs. one_component (simple_block head cs close))) (kept-all e contents h)
   kept-one e (function_block head contents close) h =
       kept-function (is_var_type head.token_type) e head contents close (kept-all e contents) h
 
@@ -149,28 +148,6 @@ mutual
       ap₂ both_followed (kept-one e c parts.0) (kept-all e cs parts.1)
 
 -- ---- one `var()`
-
-no-comma-type : (t : TokenType) → is_whitespace_type t ≡ true → is_comma_type t ≡ false
-no-comma-type Comma h = absurd (false≢true h)
-no-comma-type other h = refl
-
--- white space is no `,`
-space-no-comma : (c : Component) → is_whitespace c ≡ true → is_comma c ≡ false
-space-no-comma (preserved t) h = no-comma-type t.token_type h
-space-no-comma (simple_block head contents close) h = refl
-space-no-comma (function_block head contents close) h = refl
-
-no-comma-name : (t : TokenType) (name : Text)
-    → option_and_then (λ n. if is_custom_name n then Some n else None) (ident_of_type t) ≡ Some name
-    → is_comma_type t ≡ false
-no-comma-name Comma name h = absurd (none-some name h)
-no-comma-name other name h = refl
-
--- a name is none either
-name-no-comma : (c : Component) (name : Text) → custom_name_of c ≡ Some name → is_comma c ≡ false
-name-no-comma (preserved t) name h = no-comma-name t.token_type name h
-name-no-comma (simple_block head contents close) name h = refl
-name-no-comma (function_block head contents close) name h = refl
 
 -- after the name, the fallback is what is after the first `,`
 fallback-after-name : (e : Entries) (name : Text) (cs : Components) (r : Reference) → reference_to name cs ≡ Some r

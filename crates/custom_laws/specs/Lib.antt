@@ -1,2 +1,3 @@
-pub mod Agreement
+pub mod Written
+pub mod SameEntries
 pub mod Reordered

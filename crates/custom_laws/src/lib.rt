@@ -5,4 +5,5 @@
 
 pub mod cycles;
 pub mod environments;
+pub mod references;
 pub mod substitution;

@@ -1,9 +1,9 @@
 //! Laws of substitution (CSS Custom Properties 1, section 3).
 ghost use Rattle.css_model.specs.Components.{Components, function_block};
 ghost use Rattle.css_model.specs.declared.token.Token.{Token};
-ghost use Rattle.custom_laws.specs.Agreement.{AreAgreed};
+ghost use Rattle.custom_laws.specs.SameEntries.{AreSameOn, AreWithoutVar};
 ghost use Rattle.custom_model.specs.References.{Reference, has_var, is_var_type, names_in, reference_in};
-ghost use Rattle.custom_model.specs.Substitution.{Entries, replacement_of, replacement_of_all, substituted, substituted_within};
+ghost use Rattle.custom_model.specs.Substitution.{Entries, is_within, replacement_of, replacement_of_all, substituted, substituted_within};
 ghost use Rattle.std.specs.Option.{option_or};
 ghost use Rattle.std.specs.Prelude.{◌≡◌, Option, Some, false, option_and_then, true, ℕ};
 
@@ -31,5 +31,17 @@ pub fn one_reference()
 /// What a value is after substitution depends only on the entries of the names to which it refers.
 pub fn by_names()
     ensures { (entries others : Entries) (value : Components)
-        → AreAgreed entries others (names_in value) → substituted entries value ≡ substituted others value }
+        → AreSameOn entries others (names_in value) → substituted entries value ≡ substituted others value }
+{}
+
+/// A value with `var()` is within the limits after substitution.
+pub fn limits()
+    ensures { (tokens levels : ℕ) (entries : Entries) (value result : Components) → has_var value ≡ true
+        → substituted_within tokens levels entries value ≡ Some result → is_within tokens levels result ≡ true }
+{}
+
+/// No `var()` is left after substitution, where no entry has one.
+pub fn none_left()
+    ensures { (entries : Entries) (value result : Components) → AreWithoutVar entries
+        → substituted entries value ≡ Some result → has_var result ≡ false }
 {}

@@ -14,7 +14,7 @@ use Rattle.custom_model.specs.Substitution.{Entries, substituted}
 
 -- what an environment is made of: the names that the element declares, each with the value that wins,
 -- and the environment of the parent, which is empty for the root
-pub record Given : Type 0 where
+pub record EnvironmentGiven : Type 0 where
   pub declared : NamedValues
   pub inherited : NamedValues
 
@@ -43,7 +43,7 @@ entry_of_declared entries parent value = entry_of_substituted parent (substitute
 
 -- what is asked of a name: without a value, or on a cycle, it has the entry of the parent; else its value
 -- after substitution by the same environment
-pub record IsEntry (g : Given) (environment : NamedValues) (name : Text) : Type 0 where
+pub record IsEntry (g : EnvironmentGiven) (environment : NamedValues) (name : Text) : Type 0 where
   pub not_declared : value_named g.declared name ≡ None
       → value_named environment name ≡ value_named g.inherited name
   pub on_cycle : IsOnCycle g.declared name
@@ -54,6 +54,6 @@ pub record IsEntry (g : Given) (environment : NamedValues) (name : Text) : Type 
       ≡ entry_of_declared (value_named environment) (value_named g.inherited name) value
 
 -- the environment: the right entry for each name, in order of name
-pub record IsEnvironment (g : Given) (environment : NamedValues) : Type 0 where
+pub record IsEnvironment (g : EnvironmentGiven) (environment : NamedValues) : Type 0 where
   pub in_order : are_in_order (names_of environment) ≡ true
   pub entries : (name : Text) → IsEntry g environment name

@@ -122,3 +122,7 @@ is_kept_whole value = has_var value && has_right_vars value
 -- a value of a custom property (section 2); a CSS-wide keyword is one
 abbrev pub is_custom_value : Components → Bool
 is_custom_value value = is_declaration_value value && has_right_vars value
+
+-- a declaration of a custom property; that of another name is none
+abbrev pub is_custom_declaration : Text → Components → Bool
+is_custom_declaration name value = is_custom_name name && is_custom_value value

@@ -17,8 +17,8 @@ abbrev pub entry_of_reference : Entries → Components → Option Components
 entry_of_reference entries contents = option_and_then (λ r. entries r.name) (reference_in contents)
 
 -- one component value by itself
-abbrev pub alone : Component → Components
-alone c = component c no_components
+abbrev pub one_component : Component → Components
+one_component c = component c no_components
 
 -- both in a row, if there are both
 abbrev pub both_followed : Option Components → Option Components → Option Components
@@ -29,13 +29,13 @@ both_followed cs ds = None
 -- its fallback, where its own are replaced; with neither there is nothing
 abbrev mutual
   pub replacement_of : Entries → Component → Option Components
-  replacement_of entries (preserved t) = Some (alone (preserved t))
+  replacement_of entries (preserved t) = Some (one_component (preserved t))
   replacement_of entries (simple_block head contents close) =
-      option_map (λ cs. alone (simple_block head cs close)) (replacement_of_all entries contents)
+      option_map (λ cs. one_component (simple_block head cs close)) (replacement_of_all entries contents)
   replacement_of entries (function_block head contents close) =
       if is_var_type head.token_type
       then option_or (entry_of_reference entries contents) (replacement_of_fallback entries contents)
-      else option_map (λ cs. alone (function_block head cs close)) (replacement_of_all entries contents)
+      else option_map (λ cs. one_component (function_block head cs close)) (replacement_of_all entries contents)
 
   pub replacement_of_all : Entries → Components → Option Components
   replacement_of_all entries no_components = Some no_components

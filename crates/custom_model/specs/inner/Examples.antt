@@ -8,7 +8,7 @@ use Rattle.css_model.specs.TokenList.{token_at}
 use Rattle.rules_model.specs.inner.Examples.{spelled}
 use Rattle.rules_model.specs.Sheets.{components_of, style_attr_of}
 use Rattle.custom_model.specs.NamedValues.{NamedValues, value_named}
-use Rattle.custom_model.specs.References.{has_right_vars, has_var, is_custom_value, is_kept_whole, names_in}
+use Rattle.custom_model.specs.References.{has_right_vars, has_var, is_custom_declaration, is_custom_value, is_kept_whole, names_in}
 use Rattle.custom_model.specs.Substitution.{substituted, substituted_within}
 use Rattle.custom_model.specs.ValueText.{value_text}
 use Rattle.custom_model.specs.inner.Finding.{environment_of, is_on_cycle}
@@ -35,6 +35,10 @@ is_custom text = is_custom_value (components_of text)
 -- the names and values of declarations
 abbrev pub values_of : Text → NamedValues
 values_of text = map (λ d. (d.name, d.value)) (style_attr_of text)
+
+-- of each declaration, whether it is one of a custom property
+abbrev pub customs : Text → List Bool
+customs text = map (λ d. is_custom_declaration d.name d.value) (style_attr_of text)
 
 -- of the name of each declaration, whether it is on a cycle
 abbrev pub cycles : Text → List Bool

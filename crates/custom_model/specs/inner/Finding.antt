@@ -5,7 +5,7 @@ use Rattle.css_model.specs.Classes.{Text}
 use Rattle.css_model.specs.Components.{Components}
 use Rattle.page_model.specs.Attributes.{is_less_text, is_same_text}
 use Rattle.custom_model.specs.Cycles.{refers}
-use Rattle.custom_model.specs.Environments.{Given, entry_of_declared}
+use Rattle.custom_model.specs.Environments.{EnvironmentGiven, entry_of_declared}
 use Rattle.custom_model.specs.NamedValues.{NamedValues, value_named, names_of}
 use Rattle.custom_model.specs.Substitution.{Entries}
 
@@ -32,13 +32,13 @@ entry_of_named entries parent None = parent
 entry_of_named entries parent (Some value) = entry_of_declared entries parent value
 
 -- the entry of a name, by at most so many substitutions inside each other
-abbrev pub entry_within : ℕ → Given → Text → Option Components
+abbrev pub entry_within : ℕ → EnvironmentGiven → Text → Option Components
 entry_within zero g name = value_named g.inherited name
 entry_within (suc n) g name =
     if is_on_cycle g.declared name then value_named g.inherited name
     else entry_of_named (entry_within n g) (value_named g.inherited name) (value_named g.declared name)
 
-abbrev pub entry_of : Given → Text → Option Components
+abbrev pub entry_of : EnvironmentGiven → Text → Option Components
 entry_of g name = entry_within (suc (length g.declared)) g name
 
 -- ---- the environment
@@ -52,9 +52,9 @@ with_name name (n ∷ names) =
     else n ∷ with_name name names
 
 -- names in order, each once
-abbrev pub in_order : List Text → List Text
-in_order [] = []
-in_order (n ∷ names) = with_name n (in_order names)
+abbrev pub ordered_names : List Text → List Text
+ordered_names [] = []
+ordered_names (n ∷ names) = with_name n (ordered_names names)
 
 -- an entry in front, if there is one
 abbrev pub with_entry : Text → Option Components → NamedValues → NamedValues
@@ -66,5 +66,5 @@ abbrev pub entries_of : Entries → List Text → NamedValues
 entries_of entries [] = []
 entries_of entries (n ∷ names) = with_entry n (entries n) (entries_of entries names)
 
-abbrev pub environment_of : Given → NamedValues
-environment_of g = entries_of (entry_of g) (in_order (names_of (g.declared ++ g.inherited)))
+abbrev pub environment_of : EnvironmentGiven → NamedValues
+environment_of g = entries_of (entry_of g) (ordered_names (names_of (g.declared ++ g.inherited)))

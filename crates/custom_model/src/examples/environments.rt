@@ -1,8 +1,9 @@
 //! Environments (CSS Custom Properties 1, sections 2 and 3.1; CSS Cascade 4, section 7.3): what is declared, and
 //! what is inherited.
 ghost use Rattle.custom_model.specs.inner.Examples.{environment, in_environment, join_of};
+ghost use Rattle.custom_model.specs.NamedValues.{are_in_order};
 ghost use Rattle.std.specs.List.{repeat};
-ghost use Rattle.std.specs.Prelude.{◌≡◌, ◌∷◌, ◌++◌, [], codes, Some, None};
+ghost use Rattle.std.specs.Prelude.{◌≡◌, ◌∷◌, ◌++◌, [], codes, Some, None, true, false};
 
 /// Names have their values, or those of the parent, and stand in order of their code points.
 #[tactic(auto, unfolding(css_model::specs::inner::Nesting::levels_of, css_model::specs::inner::Pieces::pieces_after, css_model::specs::inner::Fronts::parts_after))]
@@ -29,6 +30,18 @@ pub fn names()
     ensures after_ascii { environment (codes "--é:x;--z:y") (codes "")
         ≡ (codes "--z", codes "y") ∷ (codes "--é", codes "x") ∷ [] }
     ensures empty { environment (codes "--a:") (codes "--a:p") ≡ (codes "--a", codes "") ∷ [] }
+{}
+
+/// Names in order.
+#[tactic(auto, unfolding(css_model::specs::inner::Nesting::levels_of, css_model::specs::inner::Pieces::pieces_after, css_model::specs::inner::Fronts::parts_after))]
+pub fn order()
+    ensures none { are_in_order ([]) ≡ true }
+    ensures one { are_in_order (codes "--a" ∷ []) ≡ true }
+    ensures two { are_in_order (codes "--a" ∷ codes "--b" ∷ []) ≡ true }
+    ensures three { are_in_order (codes "--B" ∷ codes "--a" ∷ codes "--ab" ∷ []) ≡ true }
+    ensures turned { are_in_order (codes "--b" ∷ codes "--a" ∷ []) ≡ false }
+    ensures twice { are_in_order (codes "--a" ∷ codes "--a" ∷ []) ≡ false }
+    ensures last_two_turned { are_in_order (codes "--a" ∷ codes "--c" ∷ codes "--b" ∷ []) ≡ false }
 {}
 
 /// References to names of the same environment.

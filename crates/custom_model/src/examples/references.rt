@@ -1,5 +1,5 @@
 //! References (CSS Custom Properties 1, sections 2 and 3).
-ghost use Rattle.custom_model.specs.inner.Examples.{is_custom, is_kept, is_right, is_var, names};
+ghost use Rattle.custom_model.specs.inner.Examples.{customs, is_custom, is_kept, is_right, is_var, names};
 ghost use Rattle.std.specs.Prelude.{◌≡◌, ◌∷◌, [], codes, true, false};
 
 /// The right form: a name, and perhaps a comma and a fallback.
@@ -34,6 +34,7 @@ pub fn bad_names()
     ensures open { is_right (codes "var(") ≡ false }
     ensures two_hyphens { is_right (codes "var(--)") ≡ false }
     ensures one_hyphen { is_right (codes "var(-a)") ≡ false }
+    ensures one_hyphen_and_more { is_right (codes "var(-ab)") ≡ false }
     ensures no_hyphen { is_right (codes "var(a)") ≡ false }
     ensures string { is_right (codes "var(\"--a\")") ≡ false }
     ensures function { is_right (codes "var(--a())") ≡ false }
@@ -141,6 +142,21 @@ pub fn custom_values()
     ensures closing_bracket_in_a_block { is_custom (codes "(])") ≡ false }
     ensures bad_reference { is_custom (codes "var(a)") ≡ false }
     ensures bad_reference_in_a_block { is_custom (codes "({var(a)})") ≡ false }
+{}
+
+/// Declarations of custom properties.
+#[tactic(auto, unfolding(css_model::specs::inner::Nesting::levels_of, css_model::specs::inner::Pieces::pieces_after, css_model::specs::inner::Fronts::parts_after))]
+pub fn custom_declarations()
+    ensures one { customs (codes "--a:b") ≡ true ∷ [] }
+    ensures empty { customs (codes "--a:") ≡ true ∷ [] }
+    ensures two_hyphens { customs (codes "--:b") ≡ false ∷ [] }
+    ensures one_hyphen { customs (codes "-a:b") ≡ false ∷ [] }
+    ensures another { customs (codes "a:b") ≡ false ∷ [] }
+    ensures exclamation_mark { customs (codes "--a:b!c") ≡ false ∷ [] }
+    ensures important { customs (codes "--a:b!important") ≡ true ∷ [] }
+    ensures bad_reference { customs (codes "--a:var(b)") ≡ false ∷ [] }
+    ensures escape_in_the_name { customs (codes "\\2d-a:b") ≡ true ∷ [] }
+    ensures some_of_them { customs (codes "--a:b;--:c;--d:)") ≡ true ∷ false ∷ false ∷ [] }
 {}
 
 /// The names to which a value refers; they compare by value, and exactly.
