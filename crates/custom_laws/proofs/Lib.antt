@@ -1,0 +1,10 @@
+pub mod Reached
+pub mod CommaTypes
+pub mod WrittenReferences
+pub mod Replacements
+pub mod Ranks
+pub mod Entries
+pub mod Ordered
+pub mod Found
+pub mod Replaced
+pub mod Reordering

@@ -1,0 +1,3 @@
+pub mod Written
+pub mod SameEntries
+pub mod Reordered
