@@ -4,6 +4,7 @@ use Rattle.std.specs.Prelude.{ℕ, ◌==◌, ℤ, neg_ℤ, pos, ◌&&◌, ◌||�
 use Rattle.std.specs.Int.{int_min, int_max}
 use Rattle.std.specs.List.{fold}
 use Rattle.std.specs.Map.{lookup}
+use Rattle.std.specs.Option.{option_or}
 use Rattle.std.specs.Ordering.{int_eq}
 use Rattle.std.specs.Str.{str_eq_ignore_ascii_case}
 use Rattle.css_model.specs.declared.token.Bracket.TheVariants.{Round}
@@ -12,8 +13,9 @@ use Rattle.css_model.specs.declared.token.TokenType.TheVariants.{Function, Delim
 use Rattle.css_model.specs.Classes.{Text, plus, hyphen, solidus}
 use Rattle.css_model.specs.Components.{Component, preserved, simple_block, function_block, Components, no_components, component}
 use Rattle.calculations_model.specs.Calculations.{Calculation, leaf, sum, scaled, divided, smallest, largest, Calculations, no_calculations, calculation, number_sum, number_product, number_quotient}
-use Rattle.value_model.specs.Lengths.{Length, length_of_type, length_or_percentage_of_type}
-use Rattle.value_model.specs.Words.{only_of}
+use Rattle.value_model.specs.Forms.{not_negative}
+use Rattle.value_model.specs.Lengths.{Length, length_of_type, length_or_percentage_of_type, length_of, length_or_percentage_of}
+use Rattle.value_model.specs.Words.{only_of, words_of}
 
 -- ---- values and their types (section 10.9)
 
@@ -255,3 +257,25 @@ abbrev pub calculation_of : Bool → Component → Option (Calculation Length)
 calculation_of with_percentages (function_block head contents close) =
     option_and_then length_of_value (value_of_call head.token_type (items_of with_percentages contents))
 calculation_of with_percentages other = None
+
+-- ---- lengths, literal or calculated
+
+-- the literal that a component value is: a length, or where they are allowed a percentage
+abbrev pub literal_of : Bool → Component → Option Length
+literal_of with_percentages c = if with_percentages then length_or_percentage_of c else length_of c
+
+-- the length that a component value is
+abbrev pub any_length_of : Bool → Component → Option (Calculation Length)
+any_length_of with_percentages c =
+    option_or (option_map (λ l. leaf l) (literal_of with_percentages c)) (calculation_of with_percentages c)
+
+-- the same where a literal may not be negative; a calculation may be, and is no literal (section 10.12)
+abbrev pub length_from_zero_of : Bool → Component → Option (Calculation Length)
+length_from_zero_of with_percentages c =
+    option_or
+    (option_map (λ l. leaf l) (not_negative (literal_of with_percentages c)))
+    (calculation_of with_percentages c)
+
+-- the length that is all there is
+abbrev pub length_in : Bool → Components → Option (Calculation Length)
+length_in with_percentages cs = option_and_then (any_length_of with_percentages) (only_of (words_of cs))

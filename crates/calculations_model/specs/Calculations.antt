@@ -1,4 +1,4 @@
--- Calculations, and their values (CSS Values 4, section 10).
+-- Calculations over lengths, and their values (CSS Values 4, section 10).
 use Rattle.std.specs.Prelude.{ℤ, pos, ◌+ℤ◌, ◌*ℤ◌, int_div, ◌||◌, if◌then◌else◌, List, [], ◌∷◌, ◌++◌, map, codes, Bool, true, false}
 use Rattle.std.specs.Fmt.{signed_decimal}
 use Rattle.std.specs.Int.{int_min, int_max}
@@ -89,19 +89,15 @@ calculation_value b base c = value_by (literal_value b base) c
 
 -- ---- computed values (section 10.11)
 
--- a number of millionths of a pixel, or of a percent
+-- units of 1/64 pixel, or a number of millionths of a pixel or of a percent
 pub data ComputedLeaf : Type 0 where
-  pixels : (millionths : ℤ) → ComputedLeaf
-  percent : (millionths : ℤ) → ComputedLeaf
+  in_units : (units : ℤ) → ComputedLeaf
+  in_pixels : (millionths : ℤ) → ComputedLeaf
+  in_percent : (millionths : ℤ) → ComputedLeaf
 
--- a calculation as it is computed where it has a percentage
-abbrev pub ComputedTree : Type 0
-ComputedTree = Calculation ComputedLeaf
-
--- a calculation as it is computed: in units of 1/64 pixel where it has no percentage
-pub data ComputedCalculation : Type 0 where
-  without_percentages : (units : ℤ) → ComputedCalculation
-  with_percentages : ComputedTree → ComputedCalculation
+-- a length as it is computed: units alone, or a calculation with percentages
+abbrev pub ComputedLength : Type 0
+ComputedLength = Calculation ComputedLeaf
 
 abbrev pub is_percentage : Length → Bool
 is_percentage (percentage millionths) = true
@@ -111,59 +107,55 @@ abbrev pub has_percentage : Calculation Length → Bool
 has_percentage c = list_any is_percentage (leaves c)
 
 abbrev pub computed_leaf : Bases → Length → ComputedLeaf
-computed_leaf b (dimension millionths u) = pixels (dimension_value b millionths u)
-computed_leaf b (percentage millionths) = percent millionths
+computed_leaf b (dimension millionths u) = in_pixels (dimension_value b millionths u)
+computed_leaf b (percentage millionths) = in_percent millionths
 
--- each length is its value, and all else stays
-abbrev pub computed_tree : Bases → Calculation Length → ComputedTree
-computed_tree b c = with_leaves (computed_leaf b) c
+-- in units where there is no percentage; else each length is its value, and all else stays
+abbrev pub computed_length : Bases → Calculation Length → ComputedLength
+computed_length b c =
+    if has_percentage c then with_leaves (computed_leaf b) c
+    else leaf (in_units (in_clamped_units (calculation_value b (pos 0) c)))
 
-abbrev pub computed_calculation : Bases → Calculation Length → ComputedCalculation
-computed_calculation b c =
-    if has_percentage c then with_percentages (computed_tree b c)
-    else without_percentages (in_clamped_units (calculation_value b (pos 0) c))
-
--- the same in units where percentages refer to this base, and not below 0: font sizes, line heights and
--- widths of borders (section 10.12)
-abbrev pub computed_in_units : Bases → ℤ → Calculation Length → ℤ
-computed_in_units b base c = int_max (pos 0) (in_clamped_units (calculation_value b base c))
+-- in units where percentages refer to this base, and not below 0: font sizes, line heights and widths of
+-- borders (section 10.12)
+abbrev pub units_from_zero : Bases → ℤ → Calculation Length → ℤ
+units_from_zero b base c = int_max (pos 0) (in_clamped_units (calculation_value b base c))
 
 -- ---- used values
 
 -- in millionths of a pixel, where percentages refer to this base
 abbrev pub leaf_value : ℤ → ComputedLeaf → ℤ
-leaf_value base (pixels millionths) = millionths
-leaf_value base (percent millionths) = percentage_value millionths base
+leaf_value base (in_units units) = clamped_millionths (millionths_of units)
+leaf_value base (in_pixels millionths) = millionths
+leaf_value base (in_percent millionths) = percentage_value millionths base
 
-abbrev pub tree_value : ℤ → ComputedTree → ℤ
-tree_value base tree = value_by (leaf_value base) tree
+-- what a computed length is where percentages refer to this base, in millionths of a pixel
+abbrev pub used_length : ComputedLength → ℤ → ℤ
+used_length l base = value_by (leaf_value base) l
 
-abbrev pub used_calculation : ComputedCalculation → ℤ → ℤ
-used_calculation (without_percentages units) base = clamped_millionths (millionths_of units)
-used_calculation (with_percentages tree) base = tree_value base tree
-
--- ---- the text of a tree
+-- ---- the text of a computed length
 
 -- a name, and in round brackets the parts with commas between them
 abbrev pub call_text : Text → List Text → Text
 call_text name parts = name ++ (codes "(" ++ (join_with_byte comma parts ++ codes ")"))
 
 abbrev pub leaf_text : ComputedLeaf → Text
-leaf_text (pixels millionths) = codes "px:" ++ signed_decimal millionths
-leaf_text (percent millionths) = codes "pct:" ++ signed_decimal millionths
+leaf_text (in_units units) = signed_decimal units
+leaf_text (in_pixels millionths) = codes "px:" ++ signed_decimal millionths
+leaf_text (in_percent millionths) = codes "pct:" ++ signed_decimal millionths
 
 abbrev mutual
-  pub tree_text : ComputedTree → Text
-  tree_text (leaf l) = leaf_text l
-  tree_text (sum a b) = call_text (codes "add") (tree_text a ∷ tree_text b ∷ [])
-  tree_text (scaled a factor) = call_text (codes "scale") (tree_text a ∷ signed_decimal factor ∷ [])
-  tree_text (divided a divisor) = call_text (codes "over") (tree_text a ∷ signed_decimal divisor ∷ [])
-  tree_text (smallest a others) = call_text (codes "min") (tree_text a ∷ tree_texts others)
-  tree_text (largest a others) = call_text (codes "max") (tree_text a ∷ tree_texts others)
+  pub length_text : ComputedLength → Text
+  length_text (leaf l) = leaf_text l
+  length_text (sum a b) = call_text (codes "add") (length_text a ∷ length_text b ∷ [])
+  length_text (scaled a factor) = call_text (codes "scale") (length_text a ∷ signed_decimal factor ∷ [])
+  length_text (divided a divisor) = call_text (codes "over") (length_text a ∷ signed_decimal divisor ∷ [])
+  length_text (smallest a others) = call_text (codes "min") (length_text a ∷ length_texts others)
+  length_text (largest a others) = call_text (codes "max") (length_text a ∷ length_texts others)
 
-  pub tree_texts : Calculations ComputedLeaf → List Text
-  tree_texts no_calculations = []
-  tree_texts (calculation a others) = tree_text a ∷ tree_texts others
+  pub length_texts : Calculations ComputedLeaf → List Text
+  length_texts no_calculations = []
+  length_texts (calculation a others) = length_text a ∷ length_texts others
 
 -- ---- what a calculation refers to
 

@@ -1,8 +1,8 @@
 //! Calculations: how they are written, and their values (CSS Values 4, section 10). The font sizes are
 //! 10 and 20 pixels, the viewport 1,000 by 500, the container 300 by 400.
-ghost use Rattle.calculations_model.specs.inner.Examples.{bases_of, calculated, calculated_of_300, computed_of, computed_on_a_page, in_units_of_300, tree_in, used_of_300};
-ghost use Rattle.calculations_model.specs.Calculations.{calculation, divided, largest, leaf, no_calculations, percent, pixels, scaled, smallest, sum, with_percentages, without_percentages};
-ghost use Rattle.value_model.specs.Lengths.{unit_set};
+ghost use Rattle.calculations_model.specs.inner.Examples.{bases_of, calculated, calculated_of_300, computed_of, computed_on_a_page, in_units_of_300, length_by_itself, length_from_zero, tree_in, used_of_300};
+ghost use Rattle.calculations_model.specs.Calculations.{calculation, divided, in_percent, in_pixels, in_units, largest, leaf, no_calculations, scaled, smallest, sum};
+ghost use Rattle.value_model.specs.Lengths.{percentage, unit_set};
 ghost use Rattle.std.specs.Prelude.{◌≡◌, None, Some, codes, false, neg_ℤ, pos, true};
 
 /// Sums: from left to right, each clamped (sections 10.1 and 10.8).
@@ -319,19 +319,19 @@ pub fn trees()
 /// Computed calculations: in units without percentages, and as a tree with them (section 10.11).
 #[tactic(auto, unfolding(css_model::specs::inner::Nesting::levels_of, css_model::specs::inner::Pieces::pieces_after, css_model::specs::inner::Fronts::parts_after))]
 pub fn computed()
-    ensures sum { computed_of (codes "calc(1px + 2px)") ≡ Some (without_percentages (pos 192)) }
-    ensures truncated { computed_of (codes "calc(1px / 3)") ≡ Some (without_percentages (pos 21)) }
-    ensures truncated_once { computed_of (codes "calc(0.01px + 0.01px)") ≡ Some (without_percentages (pos 1)) }
-    ensures negative { computed_of (codes "calc(-5px)") ≡ Some (without_percentages (neg_ℤ (pos 320))) }
-    ensures towards_zero { computed_of (codes "calc(-1px / 3)") ≡ Some (without_percentages (neg_ℤ (pos 21))) }
-    ensures greatest { computed_of (codes "calc(1e9px * 1)") ≡ Some (without_percentages (pos 1073741824)) }
-    ensures least { computed_of (codes "calc(-1e9px * 1)") ≡ Some (without_percentages (neg_ℤ (pos 1073741824))) }
-    ensures percentage { computed_of (codes "calc(10%)") ≡ Some (with_percentages (leaf (percent (pos 10000000)))) }
-    ensures sum_with_percentage { computed_of (codes "calc(1em + 10%)") ≡ Some (with_percentages (sum (leaf (pixels (pos 10000000))) (leaf (percent (pos 10000000))))) }
-    ensures product_with_percentage { computed_of (codes "calc(10% * 0)") ≡ Some (with_percentages (scaled (leaf (percent (pos 10000000))) (pos 0))) }
-    ensures quotient_with_percentage { computed_of (codes "calc(10% / 2)") ≡ Some (with_percentages (divided (leaf (percent (pos 10000000))) (pos 2000000))) }
-    ensures first_percentage { computed_of (codes "min(10%, 1px)") ≡ Some (with_percentages (smallest (leaf (percent (pos 10000000))) (calculation (leaf (pixels (pos 1000000))) no_calculations))) }
-    ensures last_percentage { computed_of (codes "max(1px, 10%)") ≡ Some (with_percentages (largest (leaf (pixels (pos 1000000))) (calculation (leaf (percent (pos 10000000))) no_calculations))) }
+    ensures sum { computed_of (codes "calc(1px + 2px)") ≡ Some (leaf (in_units (pos 192))) }
+    ensures truncated { computed_of (codes "calc(1px / 3)") ≡ Some (leaf (in_units (pos 21))) }
+    ensures truncated_once { computed_of (codes "calc(0.01px + 0.01px)") ≡ Some (leaf (in_units (pos 1))) }
+    ensures negative { computed_of (codes "calc(-5px)") ≡ Some (leaf (in_units (neg_ℤ (pos 320)))) }
+    ensures towards_zero { computed_of (codes "calc(-1px / 3)") ≡ Some (leaf (in_units (neg_ℤ (pos 21)))) }
+    ensures greatest { computed_of (codes "calc(1e9px * 1)") ≡ Some (leaf (in_units (pos 1073741824))) }
+    ensures least { computed_of (codes "calc(-1e9px * 1)") ≡ Some (leaf (in_units (neg_ℤ (pos 1073741824)))) }
+    ensures percentage { computed_of (codes "calc(10%)") ≡ Some (leaf (in_percent (pos 10000000))) }
+    ensures sum_with_percentage { computed_of (codes "calc(1em + 10%)") ≡ Some (sum (leaf (in_pixels (pos 10000000))) (leaf (in_percent (pos 10000000)))) }
+    ensures product_with_percentage { computed_of (codes "calc(10% * 0)") ≡ Some (scaled (leaf (in_percent (pos 10000000))) (pos 0)) }
+    ensures quotient_with_percentage { computed_of (codes "calc(10% / 2)") ≡ Some (divided (leaf (in_percent (pos 10000000))) (pos 2000000)) }
+    ensures first_percentage { computed_of (codes "min(10%, 1px)") ≡ Some (smallest (leaf (in_percent (pos 10000000))) (calculation (leaf (in_pixels (pos 1000000))) no_calculations)) }
+    ensures last_percentage { computed_of (codes "max(1px, 10%)") ≡ Some (largest (leaf (in_pixels (pos 1000000))) (calculation (leaf (in_percent (pos 10000000))) no_calculations)) }
     ensures number { computed_of (codes "calc(1)") ≡ None }
 {}
 
@@ -387,7 +387,32 @@ pub fn mentioned()
 /// In a viewport of 800 by 600 pixels, with a font size of 16.
 #[tactic(auto, unfolding(css_model::specs::inner::Nesting::levels_of, css_model::specs::inner::Pieces::pieces_after, css_model::specs::inner::Fronts::parts_after))]
 pub fn on_a_page()
-    ensures width { computed_on_a_page (codes "calc(1px + 2*8px )") ≡ Some (without_percentages (pos 1088)) }
-    ensures height { computed_on_a_page (codes "max(1em, min(50px, 2vw))") ≡ Some (without_percentages (pos 1024)) }
-    ensures margin { computed_on_a_page (codes "clamp(1px, 10px, 5px)") ≡ Some (without_percentages (pos 320)) }
+    ensures width { computed_on_a_page (codes "calc(1px + 2*8px )") ≡ Some (leaf (in_units (pos 1088))) }
+    ensures height { computed_on_a_page (codes "max(1em, min(50px, 2vw))") ≡ Some (leaf (in_units (pos 1024))) }
+    ensures margin { computed_on_a_page (codes "clamp(1px, 10px, 5px)") ≡ Some (leaf (in_units (pos 320))) }
+{}
+
+/// Lengths, literal or calculated: a calculation is no literal, and may be negative where a literal may
+/// not.
+#[tactic(auto, unfolding(css_model::specs::inner::Nesting::levels_of, css_model::specs::inner::Pieces::pieces_after, css_model::specs::inner::Fronts::parts_after))]
+pub fn lengths()
+    ensures literal { length_from_zero true (codes "5px") ≡ Some (leaf (in_units (pos 320))) }
+    ensures percentage { length_from_zero true (codes "5%") ≡ Some (leaf (in_percent (pos 5000000))) }
+    ensures percentage_not_allowed { length_from_zero false (codes "5%") ≡ None }
+    ensures zero { length_from_zero false (codes "0") ≡ Some (leaf (in_units (pos 0))) }
+    ensures negative_zero { length_from_zero false (codes "-0.0000001px") ≡ Some (leaf (in_units (pos 0))) }
+    ensures negative_literal { length_from_zero true (codes "-5px") ≡ None }
+    ensures negative_percentage { length_from_zero true (codes "-5%") ≡ None }
+    ensures negative_calculation { length_from_zero true (codes "calc(-5px)")
+        ≡ Some (leaf (in_units (neg_ℤ (pos 320)))) }
+    ensures calculated_percentage { length_from_zero true (codes "calc(1% - 2%)")
+        ≡ Some (sum (leaf (in_percent (pos 1000000))) (scaled (leaf (in_percent (pos 2000000))) (neg_ℤ (pos 1000000)))) }
+    ensures calculated_percentage_not_allowed { length_from_zero false (codes "calc(1% - 2%)") ≡ None }
+    ensures by_itself { length_by_itself true (codes " -5% ") ≡ Some (leaf (percentage (neg_ℤ (pos 5000000)))) }
+    ensures calculation_by_itself { length_by_itself true (codes " calc(-5%) ")
+        ≡ Some (leaf (percentage (neg_ℤ (pos 5000000)))) }
+    ensures two { length_by_itself true (codes "calc(1px) calc(1px)") ≡ None }
+    ensures nothing { length_by_itself true (codes "") ≡ None }
+    ensures number { length_by_itself true (codes "calc(4 / 3)") ≡ None }
+    ensures word { length_by_itself true (codes "auto") ≡ None }
 {}

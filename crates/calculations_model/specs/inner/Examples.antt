@@ -6,8 +6,8 @@ use Rattle.rules_model.specs.Sheets.{components_of}
 use Rattle.value_model.specs.declared.length_unit.Bases.{Bases}
 use Rattle.value_model.specs.declared.unit_set.UnitSet.{UnitSet}
 use Rattle.value_model.specs.Lengths.{Length}
-use Rattle.calculations_model.specs.CalculationGrammar.{calculation_of}
-use Rattle.calculations_model.specs.Calculations.{Calculation, ComputedCalculation, calculation_value, computed_calculation, computed_in_units, computed_tree, mentioned_in, tree_text, used_calculation}
+use Rattle.calculations_model.specs.CalculationGrammar.{calculation_of, length_from_zero_of, length_in}
+use Rattle.calculations_model.specs.Calculations.{Calculation, calculation_value, ComputedLength, computed_leaf, computed_length, used_length, units_from_zero, with_leaves, length_text, mentioned_in}
 
 -- what a reader finds in the first component value of a text
 abbrev pub first : {X : Type 0} → (Component → Option X) → Components → Option X
@@ -30,21 +30,21 @@ calculated css = option_map (calculation_value bases (pos 0)) (calculation_in fa
 abbrev pub calculated_of_300 : Text → Option ℤ
 calculated_of_300 css = option_map (calculation_value bases (pos 19200)) (calculation_in true css)
 
--- the text of its tree
+-- its text, each length in pixels
 abbrev pub tree_in : Text → Option Text
-tree_in css = option_map (λ c. tree_text (computed_tree bases c)) (calculation_in true css)
+tree_in css = option_map (λ c. length_text (with_leaves (computed_leaf bases) c)) (calculation_in true css)
 
 -- as it is computed
-abbrev pub computed_of : Text → Option ComputedCalculation
-computed_of css = option_map (computed_calculation bases) (calculation_in true css)
+abbrev pub computed_of : Text → Option ComputedLength
+computed_of css = option_map (computed_length bases) (calculation_in true css)
 
 -- in units and not below 0, where percentages refer to 300 pixels
 abbrev pub in_units_of_300 : Text → Option ℤ
-in_units_of_300 css = option_map (computed_in_units bases (pos 19200)) (calculation_in true css)
+in_units_of_300 css = option_map (units_from_zero bases (pos 19200)) (calculation_in true css)
 
 -- the used value of what is computed, where percentages refer to 300 pixels
 abbrev pub used_of_300 : Text → Option ℤ
-used_of_300 css = option_map (λ c. used_calculation c (pos 19200)) (computed_of css)
+used_of_300 css = option_map (λ c. used_length c (pos 19200)) (computed_of css)
 
 -- what it depends on
 abbrev pub bases_of : Text → Option UnitSet
@@ -55,5 +55,16 @@ abbrev pub page_bases : Bases
 page_bases =
     record { em = pos 1024; rem = pos 1024; vw = pos 51200; vh = pos 38400; cqw = pos 51200; cqh = pos 38400 }
 
-abbrev pub computed_on_a_page : Text → Option ComputedCalculation
-computed_on_a_page css = option_map (computed_calculation page_bases) (calculation_in true css)
+abbrev pub computed_on_a_page : Text → Option ComputedLength
+computed_on_a_page css = option_map (computed_length page_bases) (calculation_in true css)
+
+-- ---- lengths, literal or calculated
+
+-- as it is computed, where a literal may not be negative
+abbrev pub length_from_zero : Bool → Text → Option ComputedLength
+length_from_zero with_percentages css =
+    option_map (computed_length bases) (first (length_from_zero_of with_percentages) (components_of css))
+
+-- the length that is all there is
+abbrev pub length_by_itself : Bool → Text → Option (Calculation Length)
+length_by_itself with_percentages css = length_in with_percentages (components_of css)

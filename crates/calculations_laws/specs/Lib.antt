@@ -1,0 +1,2 @@
+pub mod ComputedLengths
+pub mod LengthTexts
