@@ -1,4 +1,3 @@
-pub mod Numerals
 pub mod Quoted
 pub mod ReadValues
 pub mod ValuesApart

@@ -13,7 +13,7 @@ use Rattle.value_model.specs.Keywords.{keyword_text}
 use Rattle.value_model.specs.Lengths.{in_percent}
 use Rattle.value_model.specs.Values.{Final, keyword, length, number, color, containment}
 use Rattle.reply_model.specs.ValueTexts.{final_text, words_text, containment_words}
-use Rattle.reply_laws.proofs.Numerals.{signed_value, value-signed, first-digit}
+use Rattle.calculations_laws.proofs.Numerals.{signed_value, value-signed, numeral-first}
 use Rattle.reply_laws.proofs.Quoted.{hex_value, value-hexes}
 
 -- ---- what a text is of
@@ -117,12 +117,6 @@ read-keyword f Bold = refl
 read-keyword f Underline = refl
 read-keyword f Overline = refl
 read-keyword f LineThrough = refl
-
--- the first code point of a numeral is a digit or a minus sign
-numeral-first : (z : ℤ) → unsigned_abs z < 10 ^ 64
-    → (40 ≤ get_or (signed_decimal z) 0 0) × (get_or (signed_decimal z) 0 0 < 58)
-numeral-first (pos n) h = let d = first-digit n h in (omega (arith, d.0), omega (arith, d.1))
-numeral-first (negsuc n) h = (omega arith, omega arith)
 
 pub read-numeral : (f : ℤ → Final) (z : ℤ) → unsigned_abs z < 10 ^ 64
     → read_value f (signed_decimal z) ≡ f z

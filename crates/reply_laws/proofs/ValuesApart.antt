@@ -16,6 +16,7 @@ use Rattle.value_model.specs.Values.{Final, keyword, length, number, alpha, inte
 use Rattle.value_laws.specs.ComputedForms.{is_computed, is_one_of, is_units_from, is_absolute_length, is_length, is_any_length, is_number, is_alpha, is_integer_between, is_any_integer, is_rgba, is_color, is_any_color, is_containment, are_container_names}
 use Rattle.reply_model.specs.ValueTexts.{final_text}
 use Rattle.reply_laws.specs.ValueTexts.{HasShortNumbers, TellsValuesApart}
+use Rattle.calculations_laws.proofs.Numerals.{short-between}
 use Rattle.reply_laws.proofs.Quoted.{same-names}
 use Rattle.reply_laws.proofs.ReadValues.{read_value, read-keyword, read-numeral, read-percent, read-number, read-current, read-rgba, containment_of, read-containment}
 
@@ -61,13 +62,6 @@ or-words : (f : ℤ → Final) (ks : List Keyword) (test : Final → Bool) → R
 or-words f ks test r = either (read_value f) (is_one_of ks) test (words f ks) r
 
 -- ---- numbers
-
-short-between : (z least greatest : ℤ) → unsigned_abs least < 10 ^ 64 → unsigned_abs greatest < 10 ^ 64
-    → int_le least z ≡ true → int_le z greatest ≡ true → unsigned_abs z < 10 ^ 64
-short-between (pos m) least (pos g) hl hg low high = omega (arith, leb-true m g high)
-short-between (pos m) least (negsuc g) hl hg low high = absurd (false≢true high)
-short-between (negsuc m) (pos l) greatest hl hg low high = absurd (false≢true low)
-short-between (negsuc m) (negsuc l) greatest hl hg low high = omega (arith, leb-true m l low)
 
 units-from : (least n : ℤ) → unsigned_abs least < 10 ^ 64 → is_units_from least n ≡ true
     → units (final_text (length (in_units n))) ≡ length (in_units n)

@@ -1,5 +1,5 @@
 -- What the text of a computed value tells.
-use Rattle.std.specs.Prelude.{◌≡◌, ℤ, ◌<◌, ◌^◌, unsigned_abs, length as count, map, true, ⊤}
+use Rattle.std.specs.Prelude.{◌≡◌, length as count, map, true, ⊤}
 use Rattle.cascade_model.specs.Defaulting.{Style, value_in}
 use Rattle.reply_model.specs.StyleText.{style_lines}
 use Rattle.reply_model.specs.ValueTexts.{final_text}
@@ -8,10 +8,7 @@ use Rattle.value_model.specs.Lengths.{in_percent}
 use Rattle.value_model.specs.Properties.{properties, property}
 use Rattle.value_model.specs.Values.{Final, number, integer, length}
 use Rattle.value_laws.specs.ComputedForms.{is_computed}
-
--- a number of at most 64 digits: of a longer one `decimal` writes the last 64, as of many others
-abbrev pub IsShort : ℤ → Type 0
-IsShort n = unsigned_abs n < 10 ^ 64
+use Rattle.calculations_laws.specs.LengthTexts.{IsShort}
 
 -- the numbers that `is_computed` does not bound are short; those that are read of CSS are at most
 -- `MAX_MILLIONTHS`, which has 16 digits
