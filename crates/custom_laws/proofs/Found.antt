@@ -18,7 +18,7 @@ use Rattle.custom_laws.proofs.Reached.{cycle-both, named-among}
 
 -- ---- the names
 
-any-of-both : (test : Text → Bool) (ns ms : List Text) → list_any test (ns ++ ms) ≡ (list_any test ns || list_any test ms)
+pub any-of-both : (test : Text → Bool) (ns ms : List Text) → list_any test (ns ++ ms) ≡ (list_any test ns || list_any test ms)
 any-of-both test [] ms = refl
 any-of-both test (n ∷ ns) ms = ap (λ x. test n || x) (any-of-both test ns ms) ∙ grouped (test n) (list_any test ns) (list_any test ms)
   where
@@ -26,12 +26,12 @@ any-of-both test (n ∷ ns) ms = ap (λ x. test n || x) (any-of-both test ns ms)
     grouped true b c = refl
     grouped false b c = refl
 
-names-of-both : (values others : NamedValues) → names_of (values ++ others) ≡ names_of values ++ names_of others
+pub names-of-both : (values others : NamedValues) → names_of (values ++ others) ≡ names_of values ++ names_of others
 names-of-both [] others = refl
 names-of-both (v ∷ values) others = ap (λ ns. v.0 ∷ ns) (names-of-both values others)
 
 -- a name that is not among those of a list has no value
-not-among-named : (values : NamedValues) (name : Text) → list_any (is_same_text name) (names_of values) ≡ false
+pub not-among-named : (values : NamedValues) (name : Text) → list_any (is_same_text name) (names_of values) ≡ false
     → value_named values name ≡ None
 not-among-named values name h = elim (none-or-some (value_named values name)) [
   | inl n ↦ n

@@ -15,28 +15,28 @@ use Rattle.custom_model.specs.inner.Finding.{with_name, ordered_names, entries_o
 -- ---- order
 
 -- a name that is less than the first of a list, where there is one
-abbrev leads : Text → List Text → Bool
+abbrev pub leads : Text → List Text → Bool
 leads name [] = true
 leads name (n ∷ names) = is_less_text name n
 
-order-cons : (n : Text) (names : List Text) → leads n names ≡ true → are_in_order names ≡ true
+pub order-cons : (n : Text) (names : List Text) → leads n names ≡ true → are_in_order names ≡ true
     → are_in_order (n ∷ names) ≡ true
 order-cons n [] h k = refl
 order-cons n (m ∷ names) h k = rw h k
 
-order-tail : (n : Text) (names : List Text) → are_in_order (n ∷ names) ≡ true → are_in_order names ≡ true
+pub order-tail : (n : Text) (names : List Text) → are_in_order (n ∷ names) ≡ true → are_in_order names ≡ true
 order-tail n [] h = refl
 order-tail n (m ∷ names) h = (both-true (is_less_text n m) (are_in_order (m ∷ names)) h).1
 
-order-leads : (n : Text) (names : List Text) → are_in_order (n ∷ names) ≡ true → leads n names ≡ true
+pub order-leads : (n : Text) (names : List Text) → are_in_order (n ∷ names) ≡ true → leads n names ≡ true
 order-leads n [] h = refl
 order-leads n (m ∷ names) h = (both-true (is_less_text n m) (are_in_order (m ∷ names)) h).0
 
-leads-through : (n m : Text) (names : List Text) → is_less_text n m ≡ true → leads m names ≡ true → leads n names ≡ true
+pub leads-through : (n m : Text) (names : List Text) → is_less_text n m ≡ true → leads m names ≡ true → leads n names ≡ true
 leads-through n m [] h k = refl
 leads-through n m (p ∷ names) h k = less-then-less n m p h k
 
-not-less : (cs : Text) → is_less_text cs cs ≡ false
+pub not-less : (cs : Text) → is_less_text cs cs ≡ false
 not-less [] = refl
 not-less (c ∷ cs) = rw (eq-eqb c c refl) (not-less cs)
 
@@ -164,7 +164,7 @@ entry-missing e (m ∷ names) name h =
 -- ---- one list
 
 -- a name before all of a list is not in it
-absent : (values : NamedValues) (name : Text) → are_in_order (names_of values) ≡ true → leads name (names_of values) ≡ true
+pub absent : (values : NamedValues) (name : Text) → are_in_order (names_of values) ≡ true → leads name (names_of values) ≡ true
     → value_named values name ≡ None
 absent [] name o h = refl
 absent (v ∷ values) name o h = elim (cases_Bool (is_same_text name v.0)) [
@@ -175,7 +175,7 @@ absent (v ∷ values) name o h = elim (cases_Bool (is_same_text name v.0)) [
 ]
 
 -- the first value of a list is that of its name
-first-value : (v : Text × Components) (values : NamedValues) → value_named (v ∷ values) v.0 ≡ Some v.1
+pub first-value : (v : Text × Components) (values : NamedValues) → value_named (v ∷ values) v.0 ≡ Some v.1
 first-value v values = rw (text-same v.0) refl
 
 -- what is after the first of two lists, where the first have the same name

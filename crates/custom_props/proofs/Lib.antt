@@ -1,0 +1,10 @@
+pub mod TextOrder
+pub mod PlacesInOrder
+pub mod RoomAfter
+pub mod Replacements
+pub mod ValueParts
+pub mod EntriesByPlace
+pub mod CustomNames
+pub mod LastName
+pub mod ComponentViews
+pub mod RoomSteps

@@ -1,0 +1,9 @@
+use Rattle.std.proofs.Common.{◌∙◌, ap, Some}
+use Rattle.css_tokens.specs.Nested.{components_view}
+use Rattle.custom_props.proofs.Replacements.{view_append}
+use Rattle.custom_props.proofs.replacing.append_value.Goals as goal
+
+pub returns : goal.returns
+returns c =
+    ap (λ l. Some (components_view l)) c.in_ok-append_copy.ensures
+    ∙ ap Some (view_append c.args.new.now c.args.value.now)

@@ -1,0 +1,4 @@
+pub mod Views
+pub mod EnvView
+pub mod Order
+pub mod inner

@@ -1,0 +1,7 @@
+-- What private items alone are said to do.
+pub mod Places
+pub mod Reading
+pub mod Entries
+pub mod Rooms
+pub mod Graphs
+pub mod Measures
