@@ -1,0 +1,2 @@
+//! Laws of boxes.
+#![tactic(auto)]
