@@ -3,13 +3,14 @@ use Rattle.std.specs.Prelude.{ℤ, pos, ◌+ℤ◌, ◌&&◌, if◌then◌else�
 use Rattle.std.specs.Int.{int_max}
 use Rattle.value_model.specs.declared.prop.Prop.{Prop}
 use Rattle.value_model.specs.declared.prop.Prop.TheVariants.{BoxSizing, Overflow, Height, MinHeight, MaxHeight, MarginTop, MarginBottom, PaddingTop, PaddingBottom, BorderTopWidth, BorderBottomWidth}
+use Rattle.value_model.specs.Lengths.{ComputedLength}
 use Rattle.value_model.specs.Values.{Final, length}
 use Rattle.flow_model.specs.declared.containing.Containing.{Containing}
 use Rattle.flow_model.specs.declared.effects.Effects.{Effects}
 use Rattle.flow_model.specs.declared.used.Used.{Used}
 use Rattle.flow_model.specs.Kinds.{is_visible}
 use Rattle.flow_model.specs.PreferredWidths.{up_to}
-use Rattle.flow_model.specs.Rows.{Row}
+use Rattle.flow_model.specs.declared.row.Row.{Row}
 use Rattle.flow_model.specs.UsedLengths.{Values, has_percentage, used_in, used, or_zero, is_border_box, content_size}
 use Rattle.flow_model.specs.Widths.{border_in, padding_in, row_of}
 
@@ -17,9 +18,12 @@ use Rattle.flow_model.specs.Widths.{border_in, padding_in, row_of}
 
 -- a length, where percentages refer to the height of the containing block; where that depends on contents, what has a
 -- percentage is as a keyword
-abbrev pub used_height : Option ℤ → Final → Option ℤ
-used_height around (length l) =
+abbrev pub used_height_of_length : Option ℤ → ComputedLength → Option ℤ
+used_height_of_length around l =
     if has_percentage l && is_none around then None else Some (used_in (or_zero around) l)
+
+abbrev pub used_height : Option ℤ → Final → Option ℤ
+used_height around (length l) = used_height_of_length around l
 used_height around v = None
 
 -- borders and paddings above and below; percentages refer to the width of the containing block

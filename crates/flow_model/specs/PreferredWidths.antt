@@ -56,12 +56,15 @@ abbrev pub from : Option ℤ → ℤ → ℤ
 from None n = n
 from (Some least) n = int_max n least
 
--- a width of the margin box, where contents make the content box so wide
+-- a width of the content box, where contents make it so wide
+abbrev pub limited_width : Values → ℤ → ℤ
+limited_width values inner = from (fixed_width values MinWidth)
+    (up_to (fixed_width values MaxWidth) (unwrap_or (fixed_width values Width) inner))
+
+-- the same of the margin box
 abbrev pub outer_width : Values → ℤ → ℤ
 outer_width values inner = clamped_units (
-    from (fixed_width values MinWidth)
-    (up_to (fixed_width values MaxWidth) (unwrap_or (fixed_width values Width) inner))
-    +ℤ fixed_margins values +ℤ fixed_borders values +ℤ fixed_paddings values)
+    limited_width values inner +ℤ fixed_margins values +ℤ fixed_borders values +ℤ fixed_paddings values)
 
 abbrev pub outer_pair : Values → (inner : ℤ × ℤ) → ℤ × ℤ
 outer_pair values inner = (outer_width values inner.0, outer_width values inner.1)

@@ -1,27 +1,11 @@
--- The seven values that stand side by side in a containing block (CSS 2.1, sections 10.3.3, 10.3.9 and 10.4).
+-- The seven values that stand side by side in a containing block (CSS 2.1, sections 10.3.3, 10.3.9 and 10.4). In the
+-- equations they are integers of any size; each result is clamped afterwards.
 use Rattle.std.specs.Prelude.{◌≡◌, ◌⊎◌, ℤ, pos, ◌+ℤ◌, ◌-ℤ◌, ◌≤ℤ◌, ◌<ℤ◌, int_lt, if◌then◌else◌, Option, Some, None, unwrap_or, Bool, true, false}
 use Rattle.std.specs.Int.{int_min, int_max, int_div_euclid}
 use Rattle.units64.specs.Limits.{clamped_units}
+use Rattle.flow_model.specs.declared.row.Beside.{Beside}
+use Rattle.flow_model.specs.declared.row.Row.{Row}
 use Rattle.flow_model.specs.UsedLengths.{or_zero, not_below_zero}
-
--- what is specified beside a width; `None` is `auto`
-pub record Beside : Type 0 where
-  pub margin_left : Option ℤ
-  pub border_left : ℤ
-  pub padding_left : ℤ
-  pub padding_right : ℤ
-  pub border_right : ℤ
-  pub margin_right : Option ℤ
-
--- the used values
-pub record Row : Type 0 where
-  pub margin_left : ℤ
-  pub border_left : ℤ
-  pub padding_left : ℤ
-  pub width : ℤ
-  pub padding_right : ℤ
-  pub border_right : ℤ
-  pub margin_right : ℤ
 
 -- all seven together
 abbrev pub row_sum : Row → ℤ
@@ -62,27 +46,31 @@ margins_in rest None None = (half rest, rest -ℤ half rest)
 margins_in rest None (Some right) = (rest -ℤ right, right)
 margins_in rest (Some left) right = (left, rest -ℤ left)
 
-abbrev pub row_between : Beside → (width : ℤ) → ℤ × ℤ → Row
-row_between s width margins = row_with s margins.0 width margins.1
-
--- a width other than `auto`: where the parts are too wide, margins that are `auto` are 0
-abbrev pub row_of_width : (around : ℤ) → Beside → (width : ℤ) → Row
-row_of_width around s width = row_between s width (
+-- the margins beside a width that is not `auto`: where the parts are too wide, those that are `auto` are 0
+abbrev pub margins_of_width : (around : ℤ) → Beside → (width : ℤ) → ℤ × ℤ
+margins_of_width around s width =
     if is_too_wide around s width
     then margins_in (around -ℤ edges s -ℤ width) (Some (or_zero s.margin_left)) (Some (or_zero s.margin_right))
-    else margins_in (around -ℤ edges s -ℤ width) s.margin_left s.margin_right)
+    else margins_in (around -ℤ edges s -ℤ width) s.margin_left s.margin_right
+
+abbrev pub row_of_width : (around : ℤ) → Beside → (width : ℤ) → Row
+row_of_width around s width =
+    row_with s (margins_of_width around s width).0 width (margins_of_width around s width).1
 
 -- what is left for a width that is `auto`
 abbrev pub rest_for_width : (around : ℤ) → Beside → ℤ
 rest_for_width around s = around -ℤ or_zero s.margin_left -ℤ edges s -ℤ or_zero s.margin_right
 
--- a width that is `auto` follows, and margins that are `auto` are 0; where it would be below 0 it is 0, and the right
--- margin follows
+-- the right margin beside it: it follows where nothing is left
+abbrev pub right_of_auto_width : (around : ℤ) → Beside → ℤ
+right_of_auto_width around s =
+    if int_lt (rest_for_width around s) (pos 0) then around -ℤ or_zero s.margin_left -ℤ edges s
+    else or_zero s.margin_right
+
+-- a width that is `auto` is what is left, and not below 0; margins that are `auto` are 0
 abbrev pub row_of_auto_width : (around : ℤ) → Beside → Row
-row_of_auto_width around s = row_with s (or_zero s.margin_left) (not_below_zero (rest_for_width around s)) (
-    if int_lt (rest_for_width around s) (pos 0)
-    then around -ℤ or_zero s.margin_left -ℤ edges s
-    else or_zero s.margin_right)
+row_of_auto_width around s = row_with s (or_zero s.margin_left)
+    (not_below_zero (rest_for_width around s)) (right_of_auto_width around s)
 
 abbrev pub block_row : (around : ℤ) → Beside → Option ℤ → Row
 block_row around s None = row_of_auto_width around s
@@ -101,15 +89,11 @@ inline_block_row around pair s width = row_with s (or_zero s.margin_left)
 
 -- ---- limits
 
--- each value clamped to what a length may be
+-- what follows from an equation is clamped to what a length may be
 abbrev pub clamped_row : Row → Row
-clamped_row row = record {
+clamped_row row = record row {
   margin_left = clamped_units row.margin_left;
-  border_left = clamped_units row.border_left;
-  padding_left = clamped_units row.padding_left;
   width = clamped_units row.width;
-  padding_right = clamped_units row.padding_right;
-  border_right = clamped_units row.border_right;
   margin_right = clamped_units row.margin_right;
 }
 

@@ -3,7 +3,9 @@ use Rattle.std.specs.Prelude.{ℤ, pos, if◌then◌else◌, Option, option_map,
 use Rattle.value_model.specs.declared.prop.Prop.{Prop}
 use Rattle.value_model.specs.declared.prop.Prop.TheVariants.{BoxSizing, Width, MinWidth, MaxWidth, MarginLeft, MarginRight, PaddingLeft, PaddingRight, BorderLeftWidth, BorderRightWidth}
 use Rattle.flow_model.specs.declared.containing.Containing.{Containing}
-use Rattle.flow_model.specs.Rows.{Beside, Row, edges, block_row, inline_block_row, clamped_row, row_within}
+use Rattle.flow_model.specs.declared.row.Beside.{Beside}
+use Rattle.flow_model.specs.declared.row.Row.{Row}
+use Rattle.flow_model.specs.Rows.{edges, block_row, inline_block_row, clamped_row, row_within}
 use Rattle.flow_model.specs.UsedLengths.{Values, used, or_zero, not_below_zero, is_border_box, content_size}
 
 -- ---- margins, borders and paddings; percentages refer to the width of the containing block
@@ -36,13 +38,12 @@ abbrev pub width_in : (around : ℤ) → Values → Prop → Option ℤ
 width_in around values p =
     option_map (content_size (edges_in_width around values)) (used around (values p))
 
--- the used values for a width
-abbrev pub row_for : Containing → (inner_pair : ℤ × ℤ) → Values → Option ℤ → Row
-row_for c pair values width = clamped_row (
-    if c.inline_block then inline_block_row c.w pair (beside c.w values) width
-    else block_row c.w (beside c.w values) width)
+-- the used values for a width and what is beside it
+abbrev pub row_for : Containing → (inner_pair : ℤ × ℤ) → Beside → Option ℤ → Row
+row_for c pair b width = clamped_row (
+    if c.inline_block then inline_block_row c.w pair b width else block_row c.w b width)
 
 -- the used values
 abbrev pub row_of : Containing → (inner_pair : ℤ × ℤ) → Values → Row
-row_of c pair values = row_within (row_for c pair values)
+row_of c pair values = row_within (row_for c pair (beside c.w values))
     (width_in c.w values Width) (width_in c.w values MaxWidth) (width_in c.w values MinWidth)

@@ -10,6 +10,7 @@ mod effects;
 pub mod examples;
 mod flow_item;
 mod margins;
+mod row;
 mod used;
 
 pub use box_kind::BoxKind;
@@ -17,4 +18,5 @@ pub use containing::Containing;
 pub use effects::Effects;
 pub use flow_item::FlowItem;
 pub use margins::Margins;
+pub use row::{Beside, Row};
 pub use used::Used;

@@ -16,7 +16,8 @@ use Rattle.flow_model.specs.declared.flow_item.FlowItem.TheVariants.{Run, Child}
 use Rattle.flow_model.specs.declared.margins.Margins.{Margins}
 use Rattle.flow_model.specs.declared.used.Used.{Used}
 use Rattle.flow_model.specs.MarginSets.{alone, empty}
-use Rattle.flow_model.specs.Rows.{Beside, Row}
+use Rattle.flow_model.specs.declared.row.Beside.{Beside}
+use Rattle.flow_model.specs.declared.row.Row.{Row}
 use Rattle.flow_model.specs.UsedLengths.{Values}
 
 abbrev pub minus : ℕ → ℤ
