@@ -12,15 +12,16 @@ use Rattle.flow_model.specs.UsedLengths.{not_below_zero}
 
 -- ---- offsets
 
--- Where something stands below this bottom edge of a solid item, with these margins between. Where nothing solid is
+-- Where something stands below this bottom edge of a solid item, with this margin between. Where nothing solid is
 -- above, it stands at the top if the top is open, since its margins are outside then, and else below them.
-abbrev pub offset_below : Used → (edge : Option ℤ) → List Margins → ℤ
-offset_below u (Some edge) sets = edge +ℤ collapsed (joined sets)
-offset_below u None sets = if is_top_open u then pos 0 else collapsed (joined sets)
+abbrev pub offset_at : Used → (edge : Option ℤ) → (margin : ℤ) → ℤ
+offset_at u (Some edge) margin = edge +ℤ margin
+offset_at u None margin = if is_top_open u then pos 0 else margin
 
 -- the top edge of an item below these, the nearest first, of which this is the bottom edge of the nearest solid one
 abbrev pub item_offset_below : Used → (edge : Option ℤ) → (above : List FlowItem) → FlowItem → ℤ
-item_offset_below u edge above item = offset_below u edge (top_of item ∷ sets_above above)
+item_offset_below u edge above item =
+    offset_at u edge (collapsed (joined (top_of item ∷ sets_above above)))
 
 -- the bottom edge of the nearest solid item
 abbrev pub solid_edge : Used → (above : List FlowItem) → Option ℤ

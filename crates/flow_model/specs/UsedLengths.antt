@@ -1,6 +1,7 @@
 -- Computed values as sizes of boxes. Lengths are integers in units of 1/64 pixel.
 use Rattle.std.specs.Prelude.{ℤ, pos, ◌-ℤ◌, Bool, true, false, Option, Some, None, is_none, unwrap_or}
 use Rattle.std.specs.Int.{int_max}
+use Rattle.units64.specs.Limits.{clamped_units}
 use Rattle.value_model.specs.declared.keyword.Keyword.TheVariants.{BorderBox}
 use Rattle.value_model.specs.declared.prop.Prop.{Prop}
 use Rattle.value_model.specs.declared.prop.Prop.TheVariants.{BoxSizing}
@@ -50,4 +51,4 @@ is_border_box v = false
 
 -- a width or height as one of the content box, where the box that it refers to is larger by so much
 abbrev pub content_size : (edges : ℤ) → ℤ → ℤ
-content_size edges n = not_below_zero (not_below_zero n -ℤ edges)
+content_size edges n = clamped_units (not_below_zero (not_below_zero n -ℤ edges))

@@ -36,6 +36,7 @@ pub fn content_sizes()
     ensures just_zero { content_size (pos 30) (pos 30) ≡ pos 0 }
     ensures negative { content_size (pos 0) (minus 5) ≡ pos 0 }
     ensures negative_before_it_loses { content_size (minus 30) (minus 5) ≡ pos 30 }
+    ensures clamped { content_size (minus 1) most ≡ most }
     ensures border_box { is_border_box (kw keywords.BorderBox) ≡ true }
     ensures content_box { is_border_box (kw keywords.ContentBox) ≡ false }
 {}
