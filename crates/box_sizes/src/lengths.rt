@@ -3,8 +3,9 @@ ghost use Rattle.box_sizes.specs.StyleValues.{values_of};
 ghost use Rattle.flow_model.specs.UsedLengths as lengths;
 ghost use Rattle.prop_table.specs.Views.{final_view};
 ghost use Rattle.query_units.specs.Views.{computed_view};
-ghost use Rattle.std.specs.Prelude.{◌≡◌, ◌+ℤ◌, ◌≤ℤ◌, pos};
+ghost use Rattle.std.specs.Prelude.{◌≡◌, pos};
 ghost use Rattle.units64.specs.Limits.{FitsUnits};
+ghost use Rattle.value_model.specs.declared.prop.Prop.TheVariants.{BoxSizing};
 
 use prop_table::{Final, Style};
 use query_units::Computed;

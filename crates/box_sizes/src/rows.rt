@@ -1,7 +1,7 @@
 //! The seven values side by side (CSS 2.1, sections 10.3.3, 10.3.9 and 10.4).
 ghost use Rattle.flow_model.specs.Rows as rows;
 ghost use Rattle.flow_model.specs.Widths as widths;
-ghost use Rattle.std.specs.Prelude.{◌≡◌, ◌≤ℤ◌, neg_ℤ, pos};
+ghost use Rattle.std.specs.Prelude.{◌≡◌, ◌≤ℤ◌, ◌-ℤ◌, neg_ℤ, pos};
 
 use crate::lengths::{or_zero, wide};
 use flow_model::{Beside, Containing, Row};
