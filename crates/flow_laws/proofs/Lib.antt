@@ -1,0 +1,4 @@
+pub mod RowSolutions
+pub mod SeenSets
+pub mod Closed
+pub mod Below

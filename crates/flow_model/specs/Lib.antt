@@ -1,0 +1,10 @@
+pub mod UsedLengths
+pub mod Kinds
+pub mod Rows
+pub mod Widths
+pub mod PreferredWidths
+pub mod Heights
+pub mod MarginSets
+pub mod Collapsing
+pub mod Offsets
+pub mod inner

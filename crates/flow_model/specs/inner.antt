@@ -1,0 +1,2 @@
+-- What examples cite.
+pub mod Examples

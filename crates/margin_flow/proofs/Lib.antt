@@ -1,0 +1,3 @@
+pub mod JoinedSets
+pub mod RunningContents
+pub mod PlacingSteps
