@@ -1,6 +1,6 @@
 //! Laws of the definitions of `custom_model`: each is the contract of a function that does nothing.
 //!
-//! Nothing builds on this crate.
+//! Only `custom_props`, the code of the same subject, builds on this crate, for its lemmas.
 #![tactic(auto)]
 
 pub mod cycles;

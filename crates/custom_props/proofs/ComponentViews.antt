@@ -1,5 +1,5 @@
 -- The component values of the definition that parts of lists and single ones are.
-use Rattle.std.proofs.Common.{◌≡◌, ◌∙◌, ap, sym, refl, ℕ, suc, ◌+◌, ◌<◌, ◌≤◌, length, get_or, drop, drop-cons, add-one, List, [], ◌∷◌, Option}
+use Rattle.std.proofs.Common.{◌≡◌, ◌∙◌, ap, sym, ℕ, suc, ◌+◌, ◌<◌, ◌≤◌, length, get_or, drop, drop-cons, add-one, List, Option}
 use Rattle.std.proofs.lemmas.List.{drop_all}
 use Rattle.css_model.specs.declared.token.Token.{Token}
 use Rattle.css_model.specs.Components as model

@@ -1,13 +1,12 @@
 -- The entry of a name by its place.
-use Rattle.std.proofs.Common.{◌≡◌, ◌∙◌, ap, sym, refl, ℕ, zero, suc, ◌<◌, length, get_or, arith, List, [], ◌∷◌, Bool, true, false, inl, inr, Option, Some, None, option_map, option_and_then}
+use Rattle.std.proofs.Common.{◌≡◌, ◌∙◌, ap, sym, refl, ℕ, zero, suc, ◌<◌, length, get_or, arith, List, [], ◌∷◌, inl, inr, Option, Some, None, option_map, option_and_then}
 use Rattle.std.specs.Prelude.{slice_get}
 use Rattle.std.proofs.lemmas.Bool.{cases_Bool}
-use Rattle.std.proofs.lemmas.Option.{none-some, same_Some}
+use Rattle.std.proofs.lemmas.Option.{none-some}
 use Rattle.css_model.specs.Classes.{Text}
 use Rattle.css_model.specs.Components.{Components}
 use Rattle.css_tokens.specs.Nested.{components_view}
 use Rattle.page_model.specs.Attributes.{is_same_text}
-use Rattle.page_laws.proofs.AttributesInOrder.{same-text}
 use Rattle.custom_model.specs.NamedValues.{NamedValues, names_of, value_named}
 use Rattle.custom_props.specs.Views.{value_view, values_view}
 use Rattle.custom_props.specs.declared.named_value.NamedValue.{NamedValue}

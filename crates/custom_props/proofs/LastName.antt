@@ -1,15 +1,14 @@
 -- Names in order, and one more at the end.
-use Rattle.std.proofs.Common.{◌≡◌, ◌∙◌, ◌-◌, ◌≤◌, ap, sym, refl, arith, length, take, get_or, Result, Ok, Err, OnOk, OnErr, ◌&&◌, List, [], ◌∷◌, ◌++◌, map, Bool, true, false, inl, inr, Some, None, if◌then◌else◌}
-use Rattle.std.proofs.lemmas.Bool.{cases_Bool, false≢true}
+use Rattle.std.proofs.Common.{◌≡◌, ◌∙◌, ◌-◌, ◌≤◌, ap, sym, refl, arith, length, take, get_or, Result, Ok, Err, OnOk, OnErr, ◌&&◌, List, [], ◌∷◌, ◌++◌, Bool, true, false}
 use Rattle.std.proofs.lemmas.List.{map-append}
 use Rattle.css_model.specs.Classes.{Text}
 use Rattle.css_model.specs.Components.{Components}
-use Rattle.page_model.specs.Attributes.{is_less_text, is_same_text}
-use Rattle.page_laws.proofs.AttributesInOrder.{same-text, less-then-less}
+use Rattle.page_model.specs.Attributes.{is_less_text}
+use Rattle.page_laws.proofs.AttributesInOrder.{less-then-less}
 use Rattle.page_laws.proofs.Options.{both-true}
 use Rattle.custom_model.specs.NamedValues.{NamedValues, are_in_order, names_of}
-use Rattle.custom_laws.proofs.Ordered.{leads, order-cons, order-leads, order-tail, leads-through, not-less}
-use Rattle.custom_props.specs.Order.{are_before, with_last}
+use Rattle.custom_laws.proofs.Ordered.{leads, order-cons, order-leads, order-tail}
+use Rattle.custom_props.specs.Order.{are_before}
 use Rattle.custom_props.specs.Views.{value_view, values_view}
 use Rattle.custom_props.specs.declared.named_value.NamedValue.{NamedValue}
 

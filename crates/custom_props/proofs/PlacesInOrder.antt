@@ -1,12 +1,11 @@
 -- Where a name stands in names in order, by one name in the middle.
-use Rattle.std.proofs.Common.{◌≡◌, ◌∙◌, ap, sym, refl, subst, ℕ, zero, suc, ◌+◌, ◌<◌, ◌≤◌, length, get_or, Less, Equal, Greater, List, [], ◌∷◌, Bool, true, false, inl, inr, Option, Some, None, option_map, take, drop, arith}
+use Rattle.std.proofs.Common.{◌≡◌, ◌∙◌, ap, sym, refl, subst, ℕ, zero, suc, ◌+◌, ◌<◌, ◌≤◌, length, get_or, Less, Equal, Greater, List, [], ◌∷◌, true, false, inl, inr, Option, Some, None, option_map, take, drop, arith}
 use Rattle.std.specs.Prelude.{slice_get}
 use Rattle.std.proofs.lemmas.Bool.{cases_Bool, false≢true}
 use Rattle.std.proofs.lemmas.Option.{none-some, same_Some}
 use Rattle.css_model.specs.Classes.{Text}
 use Rattle.page_model.specs.Attributes.{is_less_text, is_same_text}
-use Rattle.page_laws.proofs.AttributesInOrder.{same-text, text-same, less-or-more, less-then-less}
-use Rattle.page_laws.proofs.Options.{both-true}
+use Rattle.page_laws.proofs.AttributesInOrder.{same-text, less-or-more, less-then-less}
 use Rattle.custom_model.specs.NamedValues.{are_in_order}
 use Rattle.custom_laws.proofs.Ordered.{leads, order-cons, order-leads, order-tail, leads-through, not-less}
 use Rattle.custom_model.specs.NamedValues.{names_of}

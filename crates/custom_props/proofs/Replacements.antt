@@ -1,11 +1,10 @@
 -- What replaces component values, one after another.
-use Rattle.std.proofs.Common.{◌≡◌, ◌∙◌, ap, ap₂, sym, refl, List, [], ◌∷◌, ◌++◌, Bool, true, false, inl, inr, Option, Some, None, option_map, option_and_then, if◌then◌else◌}
+use Rattle.std.proofs.Common.{◌≡◌, ◌∙◌, ap, sym, refl, List, [], ◌∷◌, ◌++◌, true, false, inl, inr, Option, Some, None, option_map, option_and_then}
 use Rattle.std.specs.Option.{option_or}
 use Rattle.std.proofs.lemmas.Bool.{cases_Bool}
 use Rattle.std.proofs.lemmas.Option.{same_Some}
 use Rattle.css_model.specs.declared.token.Token.{Token}
-use Rattle.css_model.specs.Components as model
-use Rattle.css_model.specs.Components.{Components, no_components, component, preserved, simple_block, function_block}
+use Rattle.css_model.specs.Components.{Components, no_components, component, function_block}
 use Rattle.css_model.specs.inner.Nesting.{followed}
 use Rattle.css_tokens.specs.declared.component.Component.{Component}
 use Rattle.css_tokens.specs.Nested.{component_view, components_view}

@@ -1,14 +1,14 @@
 -- How many tokens may follow, one component value after another.
-use Rattle.std.proofs.Common.{◌≡◌, ◌∙◌, ap, sym, refl, ℕ, zero, suc, ◌+◌, ◌-◌, ◌<◌, ◌≤◌, ◌⊎◌, max, nat_le, ◌&&◌, if◌then◌else◌, length, length-append, List, [], ◌∷◌, ◌++◌, Bool, true, false, inl, inr, Option, Some, None, option_map, option_and_then, arith}
-use Rattle.std.proofs.lemmas.Bool.{cases_Bool, false≢true}
+use Rattle.std.proofs.Common.{◌≡◌, ◌∙◌, ap, sym, refl, ℕ, zero, suc, ◌+◌, ◌-◌, ◌<◌, ◌≤◌, ◌⊎◌, max, nat_le, ◌&&◌, length, length-append, List, [], ◌∷◌, ◌++◌, true, inl, inr, Option, Some, None, option_map, option_and_then, arith}
+use Rattle.std.proofs.lemmas.Bool.{cases_Bool}
 use Rattle.std.proofs.lemmas.Bool.Decides.{nat_tests}
 use Rattle.css_model.specs.declared.token.Token.{Token}
 use Rattle.css_model.specs.declared.token.TheConstants.{MAX_NESTING}
-use Rattle.css_model.specs.Components.{Component, preserved, simple_block, function_block, Components, no_components, component, all_tokens_of, tokens_of, close_tokens, depth, depths}
+use Rattle.css_model.specs.Components.{Component, preserved, simple_block, function_block, Components, no_components, component, all_tokens_of, tokens_of, close_tokens, depths}
 use Rattle.css_model.specs.inner.Nesting.{followed}
 use Rattle.custom_model.specs.declared.limits.TheConstants.{MAX_SUBSTITUTED_TOKENS}
 use Rattle.custom_model.specs.Substitution.{both_followed, if_within, one_component}
-use Rattle.custom_props.specs.inner.Rooms.{room_of, room_after, room_after_one, room_after_token, room_after_close, room_in}
+use Rattle.custom_props.specs.inner.Rooms.{room_of, room_after, room_after_one, room_after_token, room_in}
 
 -- ---- numbers
 

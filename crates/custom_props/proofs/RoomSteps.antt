@@ -1,16 +1,15 @@
 -- Rooms after component values, one after another.
-use Rattle.std.proofs.Common.{◌≡◌, ◌∙◌, ap, sym, refl, ℕ, ◌-◌, Bool, true, false, Option, Some, None, option_map, option_and_then}
+use Rattle.std.proofs.Common.{◌≡◌, ◌∙◌, ap, sym, ℕ, ◌-◌, true, false, Option, Some, None, option_and_then}
 use Rattle.css_model.specs.declared.token.Token.{Token}
 use Rattle.css_model.specs.Components.{Component, Components, no_components, component, preserved, simple_block, function_block}
 use Rattle.css_model.specs.declared.token.TheConstants.{MAX_NESTING}
 use Rattle.custom_model.specs.declared.limits.TheConstants.{MAX_SUBSTITUTED_TOKENS}
 use Rattle.custom_model.specs.References.{has_var, is_var_type}
-use Rattle.custom_model.specs.Substitution.{Entries, entry_of_reference, one_component, replacement_of, replacement_of_all, substituted}
+use Rattle.custom_model.specs.Substitution.{Entries, replacement_of, replacement_of_all, substituted}
 use Rattle.custom_props.specs.inner.Entries.{var_replacement}
 use Rattle.custom_props.specs.inner.Measures.{room_after_all}
-use Rattle.custom_props.specs.inner.Reading.{after_comma}
 use Rattle.custom_props.specs.inner.Rooms.{room_after, room_after_one, room_after_token, room_in}
-use Rattle.custom_props.proofs.Replacements.{function_is, var_entry, var_fallback, var_is}
+use Rattle.custom_props.proofs.Replacements.{function_is, var_is}
 use Rattle.custom_props.proofs.RoomAfter.{over_room, within_room, room_around, room_around_function, room_block, room_both, room_cons, room_function, room_none, room_token}
 
 -- ---- any rooms that are found one component value after another

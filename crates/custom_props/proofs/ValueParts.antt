@@ -1,12 +1,11 @@
 -- What values hold, one component value after another.
-use Rattle.std.proofs.Common.{◌≡◌, ◌∙◌, ap, sym, refl, ℕ, suc, nat_lt, length, ◌&&◌, ◌||◌, List, [], ◌∷◌, ◌++◌, Bool, true, false, inl, inr, Option, Some, None, option_map, option_and_then, if◌then◌else◌, arith}
-use Rattle.std.specs.Option.{is_some}
+use Rattle.std.proofs.Common.{◌≡◌, ◌∙◌, ap, sym, refl, ℕ, suc, nat_lt, length, ◌&&◌, ◌||◌, List, [], ◌∷◌, ◌++◌, Bool, true, false, inl, inr, Option, Some, None, option_and_then, if◌then◌else◌, arith}
 use Rattle.std.specs.List.{list_all}
-use Rattle.std.proofs.lemmas.Bool.{cases_Bool, false≢true}
+use Rattle.std.proofs.lemmas.Bool.{cases_Bool}
 use Rattle.std.proofs.lemmas.Bool.Decides.{nat_tests}
 use Rattle.css_model.specs.declared.token.Token.{Token}
 use Rattle.css_model.specs.Classes.{Text}
-use Rattle.css_model.specs.Components.{Component, Components, no_components, component, preserved, simple_block, function_block}
+use Rattle.css_model.specs.Components.{Component, Components, component, function_block}
 use Rattle.rules_model.specs.ComponentLists.{is_whitespace}
 use Rattle.custom_model.specs.References.{all_vars_in, custom_name_of, has_right_vars, has_var, is_comma, is_declaration_value, is_var_type, reference_in, reference_to, vars_in}
 use Rattle.custom_props.specs.inner.Reading.{after_comma, has_right_form, is_or_has_var, is_reference, is_right, named_before}

@@ -1,5 +1,5 @@
 -- Names with values in order, and one more.
-use Rattle.std.specs.Prelude.{List, [], ◌∷◌, ◌++◌, if◌then◌else◌, Bool}
+use Rattle.std.specs.Prelude.{[], ◌∷◌, ◌++◌, if◌then◌else◌, Bool}
 use Rattle.std.specs.List.{list_all}
 use Rattle.css_model.specs.Classes.{Text}
 use Rattle.css_model.specs.Components.{Components}

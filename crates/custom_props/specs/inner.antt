@@ -3,5 +3,4 @@ pub mod Places
 pub mod Reading
 pub mod Entries
 pub mod Rooms
-pub mod Graphs
 pub mod Measures

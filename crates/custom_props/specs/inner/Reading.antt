@@ -1,5 +1,5 @@
 -- What private readers of values find, one component value at a time.
-use Rattle.std.specs.Prelude.{nat_lt, ◌&&◌, ◌||◌, not, if◌then◌else◌, length, Option, Some, None, option_map, is_some, Bool}
+use Rattle.std.specs.Prelude.{nat_lt, ◌||◌, not, if◌then◌else◌, length, Option, Some, None, option_map, is_some, Bool}
 use Rattle.std.specs.List.{list_all}
 use Rattle.css_model.specs.declared.token.TokenType.{TokenType}
 use Rattle.css_model.specs.Classes.{Text}

@@ -1,5 +1,4 @@
-use Rattle.std.proofs.Common.{◌∙◌, ap, sym, Some, option_map}
-use Rattle.std.specs.Option.{option_copied}
+use Rattle.std.proofs.Common.{◌∙◌, ap, sym, Some}
 use Rattle.css_tokens.specs.Nested.{components_view}
 use Rattle.custom_props.specs.Views.{values_view}
 use Rattle.custom_props.specs.inner.Places.{place_of}

@@ -1,4 +1,4 @@
-use Rattle.std.proofs.Common.{◌≡◌, ◌∙◌, ◌<◌, ◌/◌, ◌+◌, ap, sym, arith, rules, suc, length, drop, take}
+use Rattle.std.proofs.Common.{◌∙◌, ◌<◌, ◌/◌, ◌+◌, ap, sym, arith, rules, suc, length}
 use Rattle.std.specs.Str.{chars}
 use Rattle.custom_model.specs.NamedValues.{are_in_order, names_of}
 use Rattle.custom_props.specs.Views.{values_view}

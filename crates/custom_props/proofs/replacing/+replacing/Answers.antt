@@ -1,4 +1,4 @@
-use Rattle.std.proofs.Common.{◌≡◌, ◌∙◌, ◌+◌, ap, sym, subst, rules, drop, true, IfOk, Option, Some, None, option_map, option_and_then}
+use Rattle.std.proofs.Common.{◌≡◌, ◌∙◌, ◌+◌, ap, sym, subst, rules, drop, true, IfOk, Option, Some, None, option_map}
 use Rattle.std.specs.Option.{option_copied}
 use Rattle.css_model.specs.Components.{Components}
 use Rattle.custom_props.specs.inner.Reading.{appended}

@@ -1,4 +1,4 @@
-use Rattle.std.proofs.Common.{◌∙◌, ap, sym, Some, option_map}
+use Rattle.std.proofs.Common.{◌∙◌, ap, Some}
 use Rattle.custom_props.proofs.EntriesByPlace.{name-at}
 use Rattle.custom_props.proofs.env.Env.name_at.Goals as goal
 
