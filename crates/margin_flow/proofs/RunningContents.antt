@@ -35,7 +35,7 @@ offset-from : (u : Used) (above : List FlowItem) (item : FlowItem) → (contents
     → next_offset u (contents_of u above) item ≡ item_offset u above item
 offset-from u above item e =
     let met : joined (top_of item ∷ (contents_of u above).meeting ∷ []) ≡ joined (top_of item ∷ sets_above above) =
-        ap (λ (x : Margins). joined (top_of item ∷ x ∷ [])) (meeting-is u above) ∙ joined_cons (top_of item) (sets_above above) in
+    ap (λ (x : Margins). joined (top_of item ∷ x ∷ [])) (meeting-is u above) ∙ joined_cons (top_of item) (sets_above above) in
     λ j. offset_at u (e j) (collapsed (met j))
 
 pub edge-is : (u : Used) (above : List FlowItem) → (contents_of u above).edge ≡ solid_edge u above
@@ -172,8 +172,8 @@ ends-are u items =
       auto_height = clamped_units (not_below_zero (contents_end u (edge j) (collapsed (met j))));
       top = if is_top_open u then joined (alone u.mt ∷ led j ∷ []) else alone u.mt;
       bottom = if not u.independent && (no_top_edge u && (no_bottom_edge u && (is_zero u.min_h && (is_auto_or_zero u.h && all j))))
-      then joined ((if is_top_open u then joined (alone u.mt ∷ led j ∷ []) else alone u.mt) ∷ alone u.mb ∷ [])
-      else (if is_bottom_open u then joined (alone u.mb ∷ met j ∷ []) else alone u.mb);
+          then joined ((if is_top_open u then joined (alone u.mt ∷ led j ∷ []) else alone u.mt) ∷ alone u.mb ∷ [])
+          else (if is_bottom_open u then joined (alone u.mb ∷ met j ∷ []) else alone u.mb);
       through = not u.independent && (no_top_edge u && (no_bottom_edge u && (is_zero u.min_h && (is_auto_or_zero u.h && all j))));
       baseline = if u.layout_contained then None else last j;
     }
