@@ -5,8 +5,9 @@ ghost use Rattle.prop_table.specs.Views.{final_view};
 ghost use Rattle.query_units.specs.Views.{computed_view};
 ghost use Rattle.std.specs.Prelude.{◌≡◌, ◌≤ℤ◌, neg_ℤ, pos};
 
-use crate::lengths::{fixed_length, is_border_box, or_zero, used, used_in, value, wide, zero};
+use crate::lengths::{fixed_length, is_border_box, or_zero, used, used_in, value, zero};
 use crate::preferred_widths::up_to;
+use crate::sums::four;
 use crate::widths::{border, content_size, padding};
 use flow_model::{Containing, Used};
 use prop_table::{Final, Style};
@@ -24,7 +25,11 @@ pub fn height_of(u: &Used, auto_height: Units) -> Units
         None => auto_height_of(u, auto_height),
     };
     let height = up_to(u.max_h, height);
-    if u.min_h.get() < height.get() { height } else { u.min_h }
+    if u.min_h.get() < height.get() {
+        height
+    } else {
+        u.min_h
+    }
 }
 
 fn auto_height_of(u: &Used, contents: Units) -> Units
@@ -62,7 +67,11 @@ pub(crate) fn edges_in_height(around: Units, s: &Style) -> i64
     ensures low { neg_ℤ (pos 4294967296) ≤ℤ result }
     ensures high { result ≤ℤ pos 4294967296 }
 {
-    if is_border_box(s) { vertical_edges(around, s) } else { 0 }
+    if is_border_box(s) {
+        vertical_edges(around, s)
+    } else {
+        0
+    }
 }
 
 fn vertical_edges(around: Units, s: &Style) -> i64
@@ -74,7 +83,7 @@ fn vertical_edges(around: Units, s: &Style) -> i64
     let padding_top = padding(around, s, Prop::PaddingTop);
     let padding_bottom = padding(around, s, Prop::PaddingBottom);
     let border_bottom = border(around, s, Prop::BorderBottomWidth);
-    wide(border_top) + wide(padding_top) + wide(padding_bottom) + wide(border_bottom)
+    four(border_top, padding_top, padding_bottom, border_bottom)
 }
 
 /// `height`, `max-height` or `min-height` of the content box.

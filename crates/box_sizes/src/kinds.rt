@@ -169,5 +169,6 @@ fn is_independent(s: &Style, is_root: bool) -> bool
     is_root
         || (is_inline_block(kind(s))
             || (is_flow_root(value(s, Prop::Display))
-                || (!is_overflow_visible(s) || (has_layout_containment(s) || containment(s).paint))))
+                || (!is_overflow_visible(s)
+                    || (has_layout_containment(s) || containment(s).paint))))
 }

@@ -44,6 +44,13 @@ pub(crate) fn wide(n: Units) -> i64
     n.get() as i64
 }
 
+/// The number, or 0 where it is negative.
+pub(crate) fn at_least_zero(n: i64) -> i64
+    ensures { result ≡ lengths.not_below_zero n }
+{
+    if n < 0 { 0 } else { n }
+}
+
 // ---- computed lengths
 
 /// What a length without a percentage is by itself.

@@ -14,6 +14,7 @@ mod preferred_widths;
 mod rows;
 mod sized_box;
 mod sizing;
+mod sums;
 mod widths;
 
 pub use flow_model::{BoxKind, Containing, Effects, Used};

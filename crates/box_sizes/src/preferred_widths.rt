@@ -4,6 +4,7 @@ ghost use Rattle.flow_model.specs.PreferredWidths as widths;
 ghost use Rattle.std.specs.Prelude.{◌≡◌, ◌≤ℤ◌, neg_ℤ, pos};
 
 use crate::lengths::{fixed, is_border_box, not_below_zero, or_zero, wide, zero};
+use crate::sums::outer;
 use crate::widths::content_size;
 use flow_model::Effects;
 use prop_table::Style;
@@ -33,7 +34,12 @@ fn outer_width(s: &Style, inner: Units) -> Units
     ensures { result ≡ widths.outer_width (values_of s.now) inner }
 {
     let content = limited_width(s, inner);
-    Units::new(wide(content) + fixed_margins(s) + fixed_borders(s) + fixed_paddings(s))
+    Units::new(outer(
+        content,
+        fixed_margins(s),
+        fixed_borders(s),
+        fixed_paddings(s),
+    ))
 }
 
 /// The width of the content box, where contents make it so wide.
@@ -88,7 +94,11 @@ fn fixed_edges_in_width(s: &Style) -> i64
     ensures low { neg_ℤ (pos 4294967296) ≤ℤ result }
     ensures high { result ≤ℤ pos 4294967296 }
 {
-    if is_border_box(s) { fixed_paddings(s) + fixed_borders(s) } else { 0 }
+    if is_border_box(s) {
+        fixed_paddings(s) + fixed_borders(s)
+    } else {
+        0
+    }
 }
 
 /// `width`, `max-width` or `min-width` of the content box, if it is a length without a percentage.

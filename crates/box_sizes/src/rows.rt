@@ -1,9 +1,10 @@
 //! The seven values side by side (CSS 2.1, sections 10.3.3, 10.3.9 and 10.4).
 ghost use Rattle.flow_model.specs.Rows as rows;
 ghost use Rattle.flow_model.specs.Widths as widths;
-ghost use Rattle.std.specs.Prelude.{◌≡◌, ◌≤ℤ◌, ◌-ℤ◌, neg_ℤ, pos};
+ghost use Rattle.std.specs.Prelude.{◌≡◌, ◌≤ℤ◌, ◌-ℤ◌, neg_ℤ, pos, unwrap_or};
 
-use crate::lengths::{or_zero, wide};
+use crate::lengths::{at_least_zero, or_zero, wide};
+use crate::sums::{four, less_both, less_edges, less_left, with_edges};
 use flow_model::{Beside, Containing, Row};
 use units64::Units;
 
@@ -13,7 +14,12 @@ pub(crate) fn edges(b: &Beside) -> i64
     ensures low { neg_ℤ (pos 4294967296) ≤ℤ result }
     ensures high { result ≤ℤ pos 4294967296 }
 {
-    wide(b.border_left) + wide(b.padding_left) + wide(b.padding_right) + wide(b.border_right)
+    four(
+        b.border_left,
+        b.padding_left,
+        b.padding_right,
+        b.border_right,
+    )
 }
 
 /// The used values, each clamped.
@@ -36,7 +42,9 @@ fn row_with(b: &Beside, left: i64, width: i64, right: i64) -> Row
 fn is_too_wide(around: Units, b: &Beside, width: Units) -> bool
     ensures { result ≡ rows.is_too_wide around b.now width }
 {
-    let parts = wide(or_zero(b.margin_left)) + edges(b) + wide(width) + wide(or_zero(b.margin_right));
+    let left = or_zero(b.margin_left);
+    let right = or_zero(b.margin_right);
+    let parts = with_edges(left, edges(b), width, right);
     wide(around) < parts
 }
 
@@ -75,9 +83,13 @@ fn halves(rest: i64) -> (i64, i64)
 fn margins_of_width(around: Units, b: &Beside, width: Units) -> (i64, i64)
     ensures { result ≡ rows.margins_of_width around b.now width }
 {
-    let rest = wide(around) - edges(b) - wide(width);
+    let rest = less_edges(around, edges(b), width);
     if is_too_wide(around, b, width) {
-        margins_in(rest, Some(or_zero(b.margin_left)), Some(or_zero(b.margin_right)))
+        margins_in(
+            rest,
+            Some(or_zero(b.margin_left)),
+            Some(or_zero(b.margin_right)),
+        )
     } else {
         margins_in(rest, b.margin_left, b.margin_right)
     }
@@ -92,11 +104,14 @@ fn row_of_width(around: Units, b: &Beside, width: Units) -> Row
 
 /// What is left for a width that is `auto`.
 fn rest_for_width(around: Units, b: &Beside) -> i64
-    ensures rest { result ≡ rows.rest_for_width around b.now }
-    ensures low { neg_ℤ (pos 8589934592) ≤ℤ result }
-    ensures high { result ≤ℤ pos 8589934592 }
+    ensures { result ≡ rows.rest_for_width around b.now }
 {
-    wide(around) - wide(or_zero(b.margin_left)) - edges(b) - wide(or_zero(b.margin_right))
+    less_both(
+        around,
+        or_zero(b.margin_left),
+        edges(b),
+        or_zero(b.margin_right),
+    )
 }
 
 /// The right margin beside a width that is `auto`.
@@ -104,7 +119,7 @@ fn right_of_auto_width(around: Units, b: &Beside) -> i64
     ensures { result ≡ rows.right_of_auto_width around b.now }
 {
     if rest_for_width(around, b) < 0 {
-        wide(around) - wide(or_zero(b.margin_left)) - edges(b)
+        less_left(around, or_zero(b.margin_left), edges(b))
     } else {
         wide(or_zero(b.margin_right))
     }
@@ -113,8 +128,13 @@ fn right_of_auto_width(around: Units, b: &Beside) -> i64
 fn row_of_auto_width(around: Units, b: &Beside) -> Row
     ensures { result ≡ rows.clamped_row (rows.row_of_auto_width around b.now) }
 {
-    let width = 0_i64.max(rest_for_width(around, b));
-    row_with(b, wide(or_zero(b.margin_left)), width, right_of_auto_width(around, b))
+    let width = at_least_zero(rest_for_width(around, b));
+    row_with(
+        b,
+        wide(or_zero(b.margin_left)),
+        width,
+        right_of_auto_width(around, b),
+    )
 }
 
 fn block_row(around: Units, b: &Beside, width: Option<Units>) -> Row
@@ -134,14 +154,24 @@ fn shrink_to_fit(available: i64, pair: &(Units, Units)) -> i64
     wide(pair.0).max(available).min(wide(pair.1))
 }
 
+fn inline_block_width(around: Units, pair: &(Units, Units), b: &Beside, width: Option<Units>) -> i64
+    ensures { result ≡ unwrap_or width (rows.shrink_to_fit (rows.rest_for_width around b.now) pair.now) }
+{
+    match width {
+        Some(width) => wide(width),
+        None => shrink_to_fit(rest_for_width(around, b), pair),
+    }
+}
+
 fn inline_block_row(around: Units, pair: &(Units, Units), b: &Beside, width: Option<Units>) -> Row
     ensures { result ≡ rows.clamped_row (rows.inline_block_row around pair.now b.now width) }
 {
-    let width = match width {
-        Some(width) => wide(width),
-        None => shrink_to_fit(rest_for_width(around, b), pair),
-    };
-    row_with(b, wide(or_zero(b.margin_left)), width, wide(or_zero(b.margin_right)))
+    row_with(
+        b,
+        wide(or_zero(b.margin_left)),
+        inline_block_width(around, pair, b, width),
+        wide(or_zero(b.margin_right)),
+    )
 }
 
 // ---- limits

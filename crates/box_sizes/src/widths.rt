@@ -6,8 +6,9 @@ ghost use Rattle.flow_model.specs.UsedLengths as lengths;
 ghost use Rattle.flow_model.specs.Widths as widths;
 ghost use Rattle.std.specs.Prelude.{◌≡◌, ◌≤ℤ◌, neg_ℤ, option_map, pos};
 
-use crate::lengths::{is_border_box, not_below_zero, or_zero, used, wide};
+use crate::lengths::{at_least_zero, is_border_box, not_below_zero, or_zero, used};
 use crate::rows::edges;
+use crate::sums::difference;
 use flow_model::Beside;
 use prop_table::Style;
 use units64::Units;
@@ -47,8 +48,8 @@ fn less(size: Units, edges: i64) -> Units
     requires high { edges ≤ℤ pos 4294967296 }
     ensures { result ≡ lengths.content_size edges size }
 {
-    let rest = wide(not_below_zero(size)) - edges;
-    Units::new(0_i64.max(rest))
+    let rest = difference(not_below_zero(size), edges);
+    Units::new(at_least_zero(rest))
 }
 
 /// A size of the content box, where the box that it refers to is larger by `edges`.

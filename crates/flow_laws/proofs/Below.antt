@@ -74,9 +74,9 @@ margin-rises t b n sets more te be ne h =
     let left = positive-cons t sets in
     let right = positive-cons n (b ∷ sets) ∙ ap (λ x. int_max (int_max (pos 0) n.positive) x) (positive-cons b sets) in
     let wider : most_positive (t ∷ sets) ≤ℤ most_positive (n ∷ b ∷ sets) =
-        subst (λ (x : ℤ). x ≤ℤ most_positive (n ∷ b ∷ sets)) (sym left)
-        (subst (λ (y : ℤ). int_max (int_max (pos 0) t.positive) (most_positive sets) ≤ℤ y) (sym right)
-        (rises t.positive b.positive n.positive (most_positive sets) more)) in
+    subst (λ (x : ℤ). x ≤ℤ most_positive (n ∷ b ∷ sets)) (sym left)
+    (subst (λ (y : ℤ). int_max (int_max (pos 0) t.positive) (most_positive sets) ≤ℤ y) (sym right)
+    (rises t.positive b.positive n.positive (most_positive sets) more)) in
     subst (λ (x : ℤ). clamped_units (most_positive (t ∷ sets) +ℤ x) ≤ℤ collapsed (joined (n ∷ b ∷ sets))) (sym none)
     (subst (λ (y : ℤ). clamped_units (most_positive (t ∷ sets) +ℤ pos 0) ≤ℤ clamped_units (most_positive (n ∷ b ∷ sets) +ℤ y)) (sym none_below)
     (collapsed-rises (most_positive (t ∷ sets)) (most_positive (n ∷ b ∷ sets)) wider))

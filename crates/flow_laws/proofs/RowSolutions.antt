@@ -97,20 +97,23 @@ found-margins false rest s w = are-as-specified s w rest s.margin_left s.margin_
 pub are-solutions : (around : ℤ) (b : Beside) (width : Option ℤ) → IsBlockRow around b width (block_row around b width)
 are-solutions around b None = record {
   sum = auto-sum (int_lt (rest_for_width around b) (pos 0)) around (or_zero b.margin_left) b.border_left b.padding_left
-    b.padding_right b.border_right (or_zero b.margin_right) (rest_for_width around b) refl refl;
+      b.padding_right b.border_right (or_zero b.margin_right) (rest_for_width around b) refl refl;
   border_left = refl;
   padding_left = refl;
   padding_right = refl;
   border_right = refl;
-  follows = (refl, auto-rest (int_lt (rest_for_width around b) (pos 0)) around (or_zero b.margin_left) (edges b)
-    (or_zero b.margin_right) (rest_for_width around b) refl refl);
+  follows = (
+    refl,
+    auto-rest (int_lt (rest_for_width around b) (pos 0)) around (or_zero b.margin_left) (edges b)
+        (or_zero b.margin_right) (rest_for_width around b) refl refl,
+  );
 }
 are-solutions around b (Some w) =
     let wide = is_too_wide around b w in
     let rest = around -ℤ edges b -ℤ w in
     record {
       sum = row-sum around b.border_left b.padding_left b.padding_right b.border_right w (found wide rest b).0 (found wide rest b).1
-        (found-sum wide rest b);
+          (found-sum wide rest b);
       border_left = refl;
       padding_left = refl;
       padding_right = refl;
@@ -185,7 +188,7 @@ are-unique around b None row h =
     let ml = h.follows.0 in
     let all : or_zero b.margin_left +ℤ edges b +ℤ row.width +ℤ row.margin_right ≡ around = omega (arith, ints) in
     let both = unique-rest (int_lt (rest_for_width around b) (pos 0)) around (or_zero b.margin_left) (edges b)
-      (or_zero b.margin_right) (rest_for_width around b) row.width row.margin_right refl refl all h.follows.1 in
+    (or_zero b.margin_right) (rest_for_width around b) row.width row.margin_right refl refl all h.follows.1 in
     same-row row (block_row around b None) ml bl pl both.0 pr br both.1
 are-unique around b (Some w) row h =
     let sum = h.sum in
@@ -238,7 +241,9 @@ block-row_for b x y h = ap (λ (c : Bool). clamped_row (if c then x else y)) h
 pub fill : (c : Containing) (pair : ℤ × ℤ) (values : Values) → c.inline_block ≡ false
     → (width : Option ℤ) × (Fits (block_row c.w (beside c.w values) width) → row_sum (row_of c pair values) ≡ c.w)
 fill c pair values h =
-    let some = some-within (row_for c pair (beside c.w values)) (width_in c.w values Width) (width_in c.w values MaxWidth) (width_in c.w values MinWidth) in
-    (some.0, λ fits.
-      ap (λ (r : Row). row_sum r) (some.1 ∙ block-row_for c.inline_block (inline_block_row c.w pair (beside c.w values) some.0) (block_row c.w (beside c.w values) some.0) h)
-      ∙ (clamped-sum (block_row c.w (beside c.w values) some.0) fits ∙ (are-solutions c.w (beside c.w values) some.0).sum))
+    let some = some-within (row_for c pair (beside c.w values)) (width_in c.w values Width) (width_in c.w values MaxWidth) (width_in c.w values MinWidth) in (
+      some.0,
+      λ fits.
+          ap (λ (r : Row). row_sum r) (some.1 ∙ block-row_for c.inline_block (inline_block_row c.w pair (beside c.w values) some.0) (block_row c.w (beside c.w values) some.0) h)
+          ∙ (clamped-sum (block_row c.w (beside c.w values) some.0) fits ∙ (are-solutions c.w (beside c.w values) some.0).sum),
+    )

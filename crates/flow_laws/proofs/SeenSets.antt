@@ -9,6 +9,7 @@ use Rattle.std.proofs.lemmas.List.Sums.{fold-append}
 use Rattle.flow_laws.specs.Unions.{union_of}
 use Rattle.flow_model.specs.declared.margins.Margins.{Margins}
 use Rattle.flow_model.specs.MarginSets.{joined, seen}
+
 max-rises : (a x : ℤ) → pos 0 ≤ℤ a → pos 0 ≤ℤ int_max a x
 max-rises a x h = omega (arith, ints, clamps)
 

@@ -5,3 +5,4 @@ pub mod collapsing;
 pub mod margins;
 pub mod offsets;
 pub mod rows;
+pub mod running;

@@ -1,3 +1,2 @@
-pub mod JoinedSets
 pub mod RunningContents
 pub mod PlacingSteps

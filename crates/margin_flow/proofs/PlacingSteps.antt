@@ -111,11 +111,11 @@ pub item-fits : (u : Used) (items : List FlowItem) (i : ℕ) (offsets : List ℤ
 item-fits u items i offsets contents item h e g =
     let front = drop-item items i item h e in
     let heights : All (λ item. pos 0 ≤ℤ item_height item) (item ∷ drop (i + 1) items) =
-        subst (λ (xs : List FlowItem). All (λ item. pos 0 ≤ℤ item_height item) xs) front g.heights in
+    subst (λ (xs : List FlowItem). All (λ item. pos 0 ≤ℤ item_height item) xs) front g.heights in
     let first : pos 0 ≤ℤ item_height item = All-head (λ item. pos 0 ≤ℤ item_height item) item (drop (i + 1) items) heights in
     let others = All-tail (λ item. pos 0 ≤ℤ item_height item) item (drop (i + 1) items) heights in
     let all : (item_height item +ℤ pos 2147483648 +ℤ room (drop (i + 1) items)) ≤ℤ most_room =
-        subst (λ (xs : List FlowItem). room xs ≤ℤ most_room) front g.left in
+    subst (λ (xs : List FlowItem). room xs ≤ℤ most_room) front g.left in
     let rest = room-not_negative (drop (i + 1) items) others in
     let edge = room-less contents.edge (room (drop i items)) (pos 0) (room-not_negative (drop i items) g.heights) g.edge in
     let margin = collapsed (joined (top_of item ∷ contents.meeting ∷ [])) in
@@ -138,26 +138,26 @@ goes-step u items i offsets contents item h e g =
     let front = drop-item items i item h e in
     let back = reverse-take items i item h e in
     let heights : All (λ item. pos 0 ≤ℤ item_height item) (item ∷ drop (i + 1) items) =
-        subst (λ (xs : List FlowItem). All (λ item. pos 0 ≤ℤ item_height item) xs) front g.heights in
+    subst (λ (xs : List FlowItem). All (λ item. pos 0 ≤ℤ item_height item) xs) front g.heights in
     let first : pos 0 ≤ℤ item_height item = All-head (λ item. pos 0 ≤ℤ item_height item) item (drop (i + 1) items) heights in
     let others = All-tail (λ item. pos 0 ≤ℤ item_height item) item (drop (i + 1) items) heights in
     let all : (item_height item +ℤ pos 2147483648 +ℤ room (drop (i + 1) items)) ≤ℤ most_room =
-        subst (λ (xs : List FlowItem). room xs ≤ℤ most_room) front g.left in
+    subst (λ (xs : List FlowItem). room xs ≤ℤ most_room) front g.left in
     let left : LeavesRoom contents.edge (item_height item +ℤ pos 2147483648 +ℤ room (drop (i + 1) items)) =
-        subst (λ (xs : List FlowItem). LeavesRoom contents.edge (room xs)) front g.edge in
+    subst (λ (xs : List FlowItem). LeavesRoom contents.edge (room xs)) front g.edge in
     let low = margin-low ((joined (top_of item ∷ contents.meeting ∷ [])).positive +ℤ (joined (top_of item ∷ contents.meeting ∷ [])).negative) in
     let high = margin-high ((joined (top_of item ∷ contents.meeting ∷ [])).positive +ℤ (joined (top_of item ∷ contents.meeting ∷ [])).negative) in
     let offset : next_offset u contents item ≡ item_offset u above item =
-        ap (λ (c : Contents). next_offset u c item) g.kept ∙ offset-is u above item in
+    ap (λ (c : Contents). next_offset u c item) g.kept ∙ offset-is u above item in
     record {
       kept = ap (λ (c : Contents). contents_after u c item (next_offset u c item)) g.kept
-        ∙ ap (λ (xs : List FlowItem). contents_of u xs) (sym back);
+          ∙ ap (λ (xs : List FlowItem). contents_of u xs) (sym back);
       found = ap (λ (xs : List FlowItem). (offsets ++ next_offset u contents item ∷ []) ++ offsets_below u xs rest) back
-        ∙ (append_assoc offsets (next_offset u contents item ∷ []) (offsets_below u (item ∷ above) rest)
-        ∙ (ap (λ n. offsets ++ n ∷ offsets_below u (item ∷ above) rest) offset
-        ∙ (ap (λ (xs : List FlowItem). offsets ++ offsets_below u above xs) (sym front) ∙ g.found)));
+          ∙ (append_assoc offsets (next_offset u contents item ∷ []) (offsets_below u (item ∷ above) rest)
+          ∙ (ap (λ n. offsets ++ n ∷ offsets_below u (item ∷ above) rest) offset
+          ∙ (ap (λ (xs : List FlowItem). offsets ++ offsets_below u above xs) (sym front) ∙ g.found)));
       edge = edge-room (is_top_open u) (is_through item) contents.edge (collapsed (joined (top_of item ∷ contents.meeting ∷ [])))
-        (item_height item) (room rest) u refl low high first (room-not_negative rest others) all left;
+          (item_height item) (room rest) u refl low high first (room-not_negative rest others) all left;
       left = sum-rest (item_height item) (room rest) first all;
       heights = others;
     }
@@ -171,7 +171,7 @@ pub next-step : (u : Used) (items : List FlowItem) (i : ℕ) (offsets : List ℤ
 next-step u items i offsets contents item offset offsets' contents' h e is found kept g =
     let all-found : offsets ++ next_offset u contents item ∷ [] ≡ offsets' = ap (λ n. offsets ++ n ∷ []) (sym is) ∙ sym found in
     let all-kept : contents_after u contents item (next_offset u contents item) ≡ contents' =
-        ap (λ n. contents_after u contents item n) (sym is) ∙ sym kept in
+    ap (λ n. contents_after u contents item n) (sym is) ∙ sym kept in
     subst (λ (c : Contents). GoesThrough u items (i + 1) offsets' c) all-kept
     (subst (λ (os : List ℤ). GoesThrough u items (i + 1) os (contents_after u contents item (next_offset u contents item))) all-found
     (goes-step u items i offsets contents item h e g))

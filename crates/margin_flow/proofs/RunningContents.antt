@@ -15,14 +15,10 @@ use Rattle.flow_model.specs.UsedLengths.{not_below_zero}
 use Rattle.margin_flow.specs.declared.contents.Contents.{Contents}
 use Rattle.margin_flow.specs.declared.contents.Ends.{Ends}
 use Rattle.margin_flow.specs.inner.Running.{contents_of, next_offset, first_set, ends_of, trail_of}
-use Rattle.margin_flow.proofs.JoinedSets.{joined_cons, joined_snoc}
+use Rattle.flow_laws.proofs.RunningSets.{meeting-step, has_solid-snoc, sets_to_solid-snoc, lead-step}
+use Rattle.flow_laws.proofs.SeenSets.{joined_cons}
 
 -- ---- margins after the last solid item
-
-meeting-step : (b : Bool) (m c : Margins) (sets : List Margins) → c ≡ joined sets
-    → (if b then joined (m ∷ c ∷ []) else joined (m ∷ [])) ≡ joined (if b then m ∷ sets else m ∷ [])
-meeting-step true m c sets e = ap (λ (x : Margins). joined (m ∷ x ∷ [])) e ∙ joined_cons m sets
-meeting-step false m c sets e = refl
 
 pub meeting-is : (u : Used) (above : List FlowItem) → (contents_of u above).meeting ≡ joined (sets_above above)
 meeting-is u [] = refl
@@ -35,7 +31,7 @@ offset-from : (u : Used) (above : List FlowItem) (item : FlowItem) → (contents
     → next_offset u (contents_of u above) item ≡ item_offset u above item
 offset-from u above item e =
     let met : joined (top_of item ∷ (contents_of u above).meeting ∷ []) ≡ joined (top_of item ∷ sets_above above) =
-        ap (λ (x : Margins). joined (top_of item ∷ x ∷ [])) (meeting-is u above) ∙ joined_cons (top_of item) (sets_above above) in
+    ap (λ (x : Margins). joined (top_of item ∷ x ∷ [])) (meeting-is u above) ∙ joined_cons (top_of item) (sets_above above) in
     λ j. offset_at u (e j) (collapsed (met j))
 
 pub edge-is : (u : Used) (above : List FlowItem) → (contents_of u above).edge ≡ solid_edge u above
@@ -60,19 +56,6 @@ baseline-is u (item ∷ above) =
 
 -- ---- solid items
 
-alone-is_solid : (b : Bool) → not (b && true) ≡ not b
-alone-is_solid true = refl
-alone-is_solid false = refl
-
-one-more_solid : (b c d e : Bool) → not c ≡ (if not d then true else e) → not (b && c) ≡ (if not (b && d) then true else e)
-one-more_solid true c d e h = h
-one-more_solid false c d e h = refl
-
-has_solid-snoc : (xs : List FlowItem) (x : FlowItem) → has_solid (xs ++ x ∷ []) ≡ (if has_solid xs then true else not (is_through x))
-has_solid-snoc [] x = alone-is_solid (is_through x)
-has_solid-snoc (y ∷ ys) x =
-    one-more_solid (is_through y) (list_all is_through (ys ++ x ∷ [])) (list_all is_through ys) (not (is_through x)) (has_solid-snoc ys x)
-
 edge-exists : (b s : Bool) (e : Option ℤ) (n : ℤ) → is_some e ≡ s → is_some (if b then e else Some n) ≡ (if s then true else not b)
 edge-exists true true e n h = h
 edge-exists true false e n h = h
@@ -91,27 +74,6 @@ solid-is u (item ∷ above) =
     ∙ (sym (has_solid-snoc (reverse above) item) ∙ ap (λ (xs : List FlowItem). has_solid xs) (sym (reverse-cons item above)))
 
 -- ---- margins up to the first solid item
-
-first-set : (b : Bool) (t m : Margins) → (if b then m ∷ [] else t ∷ []) ≡ (if b then m else t) ∷ []
-first-set true t m = refl
-first-set false t m = refl
-
-sets-cons : (b d : Bool) (t m f : Margins) (xs ys : List Margins) → xs ≡ ys ++ (if not d then [] else f ∷ [])
-    → (if b then m ∷ xs else t ∷ []) ≡ (if b then m ∷ ys else t ∷ []) ++ (if not (b && d) then [] else f ∷ [])
-sets-cons true d t m f xs ys h = ap (λ (zs : List Margins). m ∷ zs) h
-sets-cons false d t m f xs ys h = refl
-
-sets_to_solid-snoc : (xs : List FlowItem) (x : FlowItem)
-    → sets_to_solid (xs ++ x ∷ []) ≡ sets_to_solid xs ++ (if has_solid xs then [] else first_set x ∷ [])
-sets_to_solid-snoc [] x = first-set (is_through x) (top_of x) (bottom_of x)
-sets_to_solid-snoc (y ∷ ys) x =
-    sets-cons (is_through y) (list_all is_through ys) (top_of y) (bottom_of y) (first_set x)
-    (sets_to_solid (ys ++ x ∷ [])) (sets_to_solid ys) (sets_to_solid-snoc ys x)
-
-lead-step : (s : Bool) (l f : Margins) (sets : List Margins) → l ≡ joined sets
-    → (if s then l else joined (l ∷ f ∷ [])) ≡ joined (sets ++ (if s then [] else f ∷ []))
-lead-step true l f sets h = h ∙ ap (λ (xs : List Margins). joined xs) (sym (append-nil sets))
-lead-step false l f sets h = ap (λ (x : Margins). joined (x ∷ f ∷ [])) h ∙ sym (joined_snoc sets f)
 
 pub lead-is : (u : Used) (above : List FlowItem) → (contents_of u above).lead ≡ joined (sets_to_solid (reverse above))
 lead-is u [] = refl
@@ -172,8 +134,8 @@ ends-are u items =
       auto_height = clamped_units (not_below_zero (contents_end u (edge j) (collapsed (met j))));
       top = if is_top_open u then joined (alone u.mt ∷ led j ∷ []) else alone u.mt;
       bottom = if not u.independent && (no_top_edge u && (no_bottom_edge u && (is_zero u.min_h && (is_auto_or_zero u.h && all j))))
-      then joined ((if is_top_open u then joined (alone u.mt ∷ led j ∷ []) else alone u.mt) ∷ alone u.mb ∷ [])
-      else (if is_bottom_open u then joined (alone u.mb ∷ met j ∷ []) else alone u.mb);
+          then joined ((if is_top_open u then joined (alone u.mt ∷ led j ∷ []) else alone u.mt) ∷ alone u.mb ∷ [])
+          else (if is_bottom_open u then joined (alone u.mb ∷ met j ∷ []) else alone u.mb);
       through = not u.independent && (no_top_edge u && (no_bottom_edge u && (is_zero u.min_h && (is_auto_or_zero u.h && all j))));
       baseline = if u.layout_contained then None else last j;
     }

@@ -49,7 +49,11 @@ fn offset_after(u: &Used, edge: Option<i64>, margin: Units) -> i64
 {
     match edge {
         Some(edge) => edge + margin.get() as i64,
-        None => if is_top_open(u) { 0 } else { margin.get() as i64 },
+        None => if is_top_open(u) {
+            0
+        } else {
+            margin.get() as i64
+        },
     }
 }
 
@@ -76,7 +80,11 @@ fn next_edge(c: &Contents, item: &FlowItem, offset: i64) -> Option<i64>
     requires height_high { item_height item.now ≤ℤ pos 72057594037927936 }
     ensures { result ≡ running.next_edge c.now item.now offset }
 {
-    if is_through(item) { c.edge } else { Some(offset + height(item)) }
+    if is_through(item) {
+        c.edge
+    } else {
+        Some(offset + height(item))
+    }
 }
 
 fn next_meeting(c: &Contents, item: &FlowItem) -> Margins
@@ -92,7 +100,11 @@ fn next_meeting(c: &Contents, item: &FlowItem) -> Margins
 fn first_set(item: &FlowItem) -> Margins
     ensures { result ≡ running.first_set item.now }
 {
-    if is_through(item) { bottom(item) } else { top(item) }
+    if is_through(item) {
+        bottom(item)
+    } else {
+        top(item)
+    }
 }
 
 fn next_lead(c: &Contents, item: &FlowItem) -> Margins

@@ -5,7 +5,9 @@ ghost use Rattle.std.specs.Prelude.{◌≡◌, pos};
 
 use crate::contents::{Contents, Ends};
 use crate::margins::{alone, empty, join, same_set, value};
-use crate::openings::{is_auto_or_zero, is_bottom_open, is_top_open, is_zero, no_bottom_edge, no_top_edge};
+use crate::openings::{
+    is_auto_or_zero, is_bottom_open, is_top_open, is_zero, no_bottom_edge, no_top_edge,
+};
 use flow_model::{Margins, Used};
 use units64::Units;
 
@@ -26,13 +28,21 @@ pub(crate) fn ends_of(u: &Used, c: &Contents) -> Ends
 fn trail(u: &Used, c: &Contents) -> Margins
     ensures { result ≡ running.trail_of u.now c.now }
 {
-    if c.edge.is_none() && is_top_open(u) { empty() } else { same_set(&c.meeting) }
+    if c.edge.is_none() && is_top_open(u) {
+        empty()
+    } else {
+        same_set(&c.meeting)
+    }
 }
 
 fn top(u: &Used, c: &Contents) -> Margins
     ensures { result ≡ running.top_with u.now c.now }
 {
-    if is_top_open(u) { join(alone(u.mt), same_set(&c.lead)) } else { alone(u.mt) }
+    if is_top_open(u) {
+        join(alone(u.mt), same_set(&c.lead))
+    } else {
+        alone(u.mt)
+    }
 }
 
 fn is_through(u: &Used, c: &Contents) -> bool
@@ -40,7 +50,8 @@ fn is_through(u: &Used, c: &Contents) -> bool
 {
     !u.independent
         && (no_top_edge(u)
-            && (no_bottom_edge(u) && (is_zero(u.min_h) && (is_auto_or_zero(u.h) && c.edge.is_none()))))
+            && (no_bottom_edge(u)
+                && (is_zero(u.min_h) && (is_auto_or_zero(u.h) && c.edge.is_none()))))
 }
 
 fn bottom(u: &Used, c: &Contents) -> Margins
@@ -68,8 +79,16 @@ fn contents_end(u: &Used, edge: Option<i64>, margin: Units) -> i64
     ensures { result ≡ contents_end u.now edge margin }
 {
     match edge {
-        Some(edge) => if is_bottom_open(u) { edge } else { edge + margin.get() as i64 },
-        None => if is_top_open(u) || is_bottom_open(u) { 0 } else { margin.get() as i64 },
+        Some(edge) => if is_bottom_open(u) {
+            edge
+        } else {
+            edge + margin.get() as i64
+        },
+        None => if is_top_open(u) || is_bottom_open(u) {
+            0
+        } else {
+            margin.get() as i64
+        },
     }
 }
 

@@ -76,6 +76,8 @@ pub fn rows_of_styles()
         ≡ plain_row (pos 0) (pos 60) (pos 0) }
     ensures block_asks_no_pair { row_of (block_in (pos 1000)) (pos 30, pos 60) plain
         ≡ plain_row (pos 0) (pos 1000) (pos 0) }
+    ensures clamped_before_it_is_limited { row_of (block_in most) (pos 0, pos 0) (but MaxWidth (units most) (but MarginLeft (units (minus 64)) plain))
+        ≡ plain_row (minus 64) most (pos 0) }
     ensures clamped { row_of (block_in most) (pos 0, pos 0) (but MarginLeft (units (minus 64)) plain)
         ≡ plain_row (minus 64) most (pos 0) }
 {}

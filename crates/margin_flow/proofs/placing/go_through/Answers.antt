@@ -12,7 +12,7 @@ next_offset-offset-requires c =
 pub contents_after-contents-requires-clause-offset_low : goal.contents_after-contents-requires-clause-offset_low
 contents_after-contents-requires-clause-offset_low c =
     let fits = item-fits c.args.u.now c.args.items.now c.loop-i.i c.loop-i.offsets c.loop-i.contents c.index-items-i.result
-      c.loop-i-test.true c.index-items-i.is c.loop-i.invariant in
+    c.loop-i-test.true c.index-items-i.is c.loop-i.invariant in
     let low = fits.offset_low in
     let is = c.next_offset-offset.ensures in
     omega (arith, ints)
@@ -20,7 +20,7 @@ contents_after-contents-requires-clause-offset_low c =
 pub contents_after-contents-requires-clause-offset_high : goal.contents_after-contents-requires-clause-offset_high
 contents_after-contents-requires-clause-offset_high c =
     let fits = item-fits c.args.u.now c.args.items.now c.loop-i.i c.loop-i.offsets c.loop-i.contents c.index-items-i.result
-      c.loop-i-test.true c.index-items-i.is c.loop-i.invariant in
+    c.loop-i-test.true c.index-items-i.is c.loop-i.invariant in
     let high = fits.offset_high in
     let is = c.next_offset-offset.ensures in
     omega (arith, ints)
