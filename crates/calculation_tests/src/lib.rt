@@ -1,0 +1,7 @@
+//! Tests of calculations: texts, and what is read of them and computed.
+#![tactic(auto)]
+
+#[cfg(test)]
+mod printing;
+#[cfg(test)]
+mod values;
