@@ -255,3 +255,6 @@ take-suc (x ∷ xs) (suc i) d h = ap (λ l. x ∷ l) (take-suc xs i d (omega (ar
 pub take_next : (xs : List ℕ) (i x : ℕ) → i < length xs → x ≡ get_or xs i x → take (i + 1) xs ≡ take i xs ++ x ∷ []
 take_next xs i x h e =
     ap (λ n. take n xs) (add-one i) ∙ (take-suc xs i x h ∙ ap (λ y. take i xs ++ y ∷ []) (sym e))
+
+pub take_at : (xs : List ℕ) (i d : ℕ) → i < length xs → take (i + 1) xs ≡ take i xs ++ get_or xs i d ∷ []
+take_at xs i d h = ap (λ n. take n xs) (add-one i) ∙ take-suc xs i d h

@@ -51,8 +51,8 @@ fn mark_all(
     requires { (y : ℕ) → IsIn y places.now → y < length marks.old }
     ensures { OnOk result (Marks places.now marks.old pending.old marks.new pending.new) }
 {
-    for place in places {
-        mark(*place, marks, pending)?;
+    for index in 0..places.len() {
+        mark(places[index], marks, pending)?;
     }
     Ok(())
 }
