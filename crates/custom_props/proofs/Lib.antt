@@ -8,3 +8,6 @@ pub mod CustomNames
 pub mod LastName
 pub mod ComponentViews
 pub mod RoomSteps
+pub mod Marking
+pub mod Ordering
+pub mod Bridge

@@ -4,3 +4,5 @@ pub mod Reading
 pub mod Entries
 pub mod Rooms
 pub mod Measures
+pub mod Graphs
+pub mod Walks
