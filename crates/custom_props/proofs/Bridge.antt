@@ -156,9 +156,11 @@ module _ (declared : NamedValues) where
       → (m : Text) × (place_of m (names_of declared) ≡ Some y) × (refers declared n m ≡ true)
   successor-refers n x y p i =
       let here = value-in-place (places_of (names_of declared)) declared n x p in
-      let found = to-name (names_of declared) y (all_vars_in here.0) (subst (IsIn y) here.2 i) in
-      (found.0, found.1,
-        ap (λ o. list_any (is_same_text found.0) (unwrap_or (option_map names_in o) [])) here.1 ∙ found.2)
+      let found = to-name (names_of declared) y (all_vars_in here.0) (subst (IsIn y) here.2 i) in (
+        found.0,
+        found.1,
+        ap (λ o. list_any (is_same_text found.0) (unwrap_or (option_map names_in o) [])) here.1 ∙ found.2,
+      )
 
   refers-successor : (n m : Text) (x y : ℕ) → place_of n (names_of declared) ≡ Some x
       → place_of m (names_of declared) ≡ Some y → refers declared n m ≡ true
@@ -215,8 +217,11 @@ module _ (declared : NamedValues) where
       within-places [] x i = absurd i
       within-places (v ∷ values) zero i =
           let found = to-name (names_of declared) y (all_vars_in v.1) i in
-          omega (arith, place-within found.0 (names_of declared) y found.1,
-          length-map declared (λ v. places_of (names_of declared) v.1))
+          omega (
+            arith,
+            place-within found.0 (names_of declared) y found.1,
+            length-map declared (λ v. places_of (names_of declared) v.1),
+          )
       within-places (v ∷ values) (suc x) i = within-places values x i
 
 -- ---- one component value after another

@@ -121,23 +121,29 @@ left-leads g m t (Leave z ∷ ts) n y (inr i) = left-leads g m t ts n.2 y i
 order-more : (g : Graph) (x : ℕ) (front order : List ℕ) → AreOrdered g front order
     → ((y : ℕ) → IsIn y (successors g x) → (IsIn y order ⊎ IsIn y front) ⊎ Leads g y x)
     → AreOrdered g front (order ++ x ∷ [])
-order-more g x front [] o h = ((λ y i. elim (h y i) [
-  | inl a ↦ elim a [
-    | inl b ↦ absurd b
-    | inr b ↦ inl b
-  ]
-  | inr l ↦ inr l
-]), tt)
-order-more g x front (z ∷ order) o h = (o.0, order-more g x (z ∷ front) order o.1 (λ y i. elim (h y i) [
-  | inl a ↦ elim a [
-    | inl b ↦ elim b [
-      | inl e ↦ inl (inr (inl e))
-      | inr c ↦ inl (inl c)
+order-more g x front [] o h = (
+  (λ y i. elim (h y i) [
+    | inl a ↦ elim a [
+      | inl b ↦ absurd b
+      | inr b ↦ inl b
     ]
-    | inr b ↦ inl (inr (inr b))
-  ]
-  | inr l ↦ inr l
-]))
+    | inr l ↦ inr l
+  ]),
+  tt,
+)
+order-more g x front (z ∷ order) o h = (
+  o.0,
+  order-more g x (z ∷ front) order o.1 (λ y i. elim (h y i) [
+    | inl a ↦ elim a [
+      | inl b ↦ elim b [
+        | inl e ↦ inl (inr (inl e))
+        | inr c ↦ inl (inl c)
+      ]
+      | inr b ↦ inl (inr (inr b))
+    ]
+    | inr l ↦ inr l
+  ]),
+)
 
 pub orders_leave : (g : Graph) (m : List Bool) (x : ℕ) (all ts : List Task) (order order' : List ℕ)
     → all ≡ ts ++ Leave x ∷ [] → order' ≡ order ++ x ∷ [] → Orders g m all order → Orders g m ts order'
@@ -212,7 +218,7 @@ nested-enter g m x l (Enter y ∷ ts) n = nested-enter g m x l ts n
 nested-enter g m x l (Leave y ∷ ts) n =
     let leads : Leads g y x = (all-right g y ts (Enter x ∷ []) n.0).0 in (
       all-both g y ts (Leave x ∷ entered (successors g x)) (all-left g y ts (Enter x ∷ []) n.0)
-      (leads, leads-entered g y (successors g x) (λ z i. leads-then g y x z leads (at_once i))),
+          (leads, leads-entered g y (successors g x) (λ z i. leads-then g y x z leads (at_once i))),
       (λ z i. elim (n.1 z i) [
         | inl h ↦ inl (set-kept m x z h)
         | inr e ↦ elim (entered-split z ts (Enter x ∷ []) e) [

@@ -23,11 +23,11 @@ mod substitution;
 mod values;
 
 pub use env::{Declared, Env};
+pub use graphs::graph_of;
 pub use named_value::NamedValue;
+pub use orders::order_of;
 pub use references::is_custom_name;
+pub use searches::is_on_cycle;
 pub use substituted::Substituted;
 pub use substitution::substitute;
 pub use values::{has_right_vars, has_var, is_custom_value};
-pub use graphs::graph_of;
-pub use searches::is_on_cycle;
-pub use orders::order_of;

@@ -24,11 +24,7 @@ pub(crate) fn is_marked(marks: &Seq<bool>, place: usize) -> bool
 }
 
 /// Whether a place leads back to itself.
-pub fn is_on_cycle(
-    alloc: Global,
-    graph: &[Seq<usize>],
-    start: usize,
-) -> Result<bool, NoMemory>
+pub fn is_on_cycle(alloc: Global, graph: &[Seq<usize>], start: usize) -> Result<bool, NoMemory>
     requires start { start < length graph.now }
     requires within { IsWithin graph.now }
     ensures { IfOk result (λ on_cycle. IsTrue on_cycle ↔ Leads graph.now start start) }

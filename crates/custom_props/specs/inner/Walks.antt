@@ -62,7 +62,7 @@ abbrev pub Enters : Graph → ℕ → List Bool → List Task → List Bool → 
 Enters graph x marks tasks marks' tasks' =
     ((x < length graph → is_marked marks x ≡ true) × (marks' ≡ marks) × (tasks' ≡ tasks))
     ⊎ ((x < length graph) × (is_marked marks x ≡ false) × (marks' ≡ slice_set marks x true)
-        × (tasks' ≡ tasks ++ Leave x ∷ entered (successors graph x)))
+    × (tasks' ≡ tasks ++ Leave x ∷ entered (successors graph x)))
 
 -- so many places are to be entered, and no more is to be done
 abbrev pub AreAllEntered : ℕ → List Task → Type 0

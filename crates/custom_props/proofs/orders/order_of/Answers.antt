@@ -16,7 +16,7 @@ loop-task-smaller-in-Continue-branch-3 c =
     let fewer = fewer_tasks c.args.graph.now c.loop-task.marks c.enter.new.marks c.in-Enter.place c.pop.new.self
     c.enter.new.tasks c.loop-task.invariant.same_length c.in_ok-enter-in-Enter.ensures in
     let less : length c.enter.new.tasks + tasks_ahead c.args.graph.now c.enter.new.marks
-        < length c.loop-task.tasks + tasks_ahead c.args.graph.now c.loop-task.marks =
+    < length c.loop-task.tasks + tasks_ahead c.args.graph.now c.loop-task.marks =
     omega (arith, fewer, ap length split, length-append c.pop.new.self (Enter c.in-Enter.place ∷ [])) in
     less
 
