@@ -1,2 +1,3 @@
+pub mod HeightSteps
 pub mod RowSteps
 pub mod ValueThere

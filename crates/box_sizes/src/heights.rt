@@ -1,9 +1,10 @@
 //! Heights (CSS 2.1, sections 10.5 to 10.7).
 ghost use Rattle.box_sizes.specs.StyleValues.{values_of};
 ghost use Rattle.flow_model.specs.Heights as heights;
+ghost use Rattle.flow_model.specs.UsedLengths as lengths;
 ghost use Rattle.prop_table.specs.Views.{final_view};
 ghost use Rattle.query_units.specs.Views.{computed_view};
-ghost use Rattle.std.specs.Prelude.{◌≡◌, ◌≤ℤ◌, neg_ℤ, pos};
+ghost use Rattle.std.specs.Prelude.{◌≡◌, ◌&&◌, ◌≤ℤ◌, is_none, neg_ℤ, pos};
 
 use crate::lengths::{fixed_length, is_border_box, or_zero, used, used_in, value, zero};
 use crate::preferred_widths::up_to;
@@ -40,11 +41,25 @@ fn auto_height_of(u: &Used, contents: Units) -> Units
 
 // ---- heights of a style
 
+/// Whether a percentage is in it.
+fn has_percentage(l: &Computed) -> bool
+    ensures { result ≡ lengths.has_percentage (computed_view l.now) }
+{
+    fixed_length(l).is_none()
+}
+
+/// Whether a length refers to a height that is not known.
+fn is_undetermined(around: &Option<Units>, l: &Computed) -> bool
+    ensures { result ≡ (lengths.has_percentage (computed_view l.now) && is_none around.now) }
+{
+    has_percentage(l) && around.is_none()
+}
+
 /// A length, where percentages refer to `around`; without that, one with a percentage is none.
 fn used_length(around: Option<Units>, l: &Computed) -> Option<Units>
     ensures { result ≡ heights.used_height_of_length around (computed_view l.now) }
 {
-    if fixed_length(l).is_none() && around.is_none() {
+    if is_undetermined(&around, l) {
         None
     } else {
         Some(used_in(or_zero(around), l))

@@ -59,7 +59,7 @@ pub(crate) fn fixed_length(l: &Computed) -> Option<Units>
 {
     match l {
         Computed::Units(n) => Some(*n),
-        Computed::Percent(_) => None,
+        _ => None,
     }
 }
 

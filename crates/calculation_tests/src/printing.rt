@@ -1,46 +1,42 @@
 //! How calculations are printed in rows.
-use calculations::{ComputedCalculation, UnitSet};
 use port_core::{NoMemory, Seq};
+use query_units::{Computed, UnitSet};
 use std::alloc::Global;
 
 /// Prints a computed calculation: a tree, or units alone.
 #[cycle(trees)]
-pub fn print_tree(
-    alloc: Global,
-    c: &ComputedCalculation,
-    printed: &mut String,
-) -> Result<(), NoMemory> {
+pub fn print_tree(alloc: Global, c: &Computed, printed: &mut String) -> Result<(), NoMemory> {
     match c {
-        ComputedCalculation::Units(length) => {
+        Computed::Units(length) => {
             print_number(alloc, "", length.get() as i64, printed)?;
         }
-        ComputedCalculation::Px(number) => print_number(alloc, "px:", number.get(), printed)?,
-        ComputedCalculation::Pct(number) => print_number(alloc, "pct:", number.get(), printed)?,
-        ComputedCalculation::Add(a, b) => {
+        Computed::Px(number) => print_number(alloc, "px:", number.get(), printed)?,
+        Computed::Pct(number) => print_number(alloc, "pct:", number.get(), printed)?,
+        Computed::Add(a, b) => {
             printed.push_str("add(")?;
             print_tree(alloc, a.get(), printed)?;
             printed.push(',')?;
             print_tree(alloc, b.get(), printed)?;
             printed.push(')')?;
         }
-        ComputedCalculation::Scale(a, number) => {
+        Computed::Scale(a, number) => {
             printed.push_str("scale(")?;
             print_tree(alloc, a.get(), printed)?;
             print_number(alloc, ",", number.get(), printed)?;
             printed.push(')')?;
         }
-        ComputedCalculation::Over(a, number) => {
+        Computed::Over(a, number) => {
             printed.push_str("over(")?;
             print_tree(alloc, a.get(), printed)?;
             print_number(alloc, ",", number.get(), printed)?;
             printed.push(')')?;
         }
-        ComputedCalculation::Min(first, others) => {
+        Computed::Min(first, others) => {
             printed.push_str("min(")?;
             print_tree(alloc, first.get(), printed)?;
             print_others(alloc, others, printed)?;
         }
-        ComputedCalculation::Max(first, others) => {
+        Computed::Max(first, others) => {
             printed.push_str("max(")?;
             print_tree(alloc, first.get(), printed)?;
             print_others(alloc, others, printed)?;
@@ -52,7 +48,7 @@ pub fn print_tree(
 #[cycle(trees)]
 fn print_others(
     alloc: Global,
-    others: &Seq<ComputedCalculation>,
+    others: &Seq<Computed>,
     printed: &mut String,
 ) -> Result<(), NoMemory> {
     for other in others.as_slice() {

@@ -1,8 +1,8 @@
 //! Rows of lengths, with what they compute to.
 use crate::printing::{print_bases, print_number, print_tree};
-use calculations::{Bases, Calculation, length_from_zero_of, read_length};
 use css_tokens::{Components, components, tokenize};
 use port_core::NoMemory;
+use query_units::{Bases, Length, length_from_zero_of, read_length};
 use std::alloc::Global;
 use std::process::Abort;
 use std::test::Fail;
@@ -91,7 +91,7 @@ fn components_of(alloc: Global, text: &str) -> Result<Components, Fail> {
     Ok(components(alloc, &tokens)?)
 }
 
-fn print_value(alloc: Global, length: &Calculation, printed: &mut String) -> Result<(), NoMemory> {
+fn print_value(alloc: Global, length: &Length, printed: &mut String) -> Result<(), NoMemory> {
     let computed = length.copy(alloc)?.absolute(alloc, &bases())?;
     let copy = computed.copy(alloc)?;
     print_tree(alloc, &computed, printed)?;

@@ -1,5 +1,5 @@
 -- Lengths compute to units that fit, or to calculations with a percentage.
-use Rattle.std.proofs.Common.{◌≡◌, ◌∙◌, refl, ap, ap₂, ◌||◌, not, List, [], ◌∷◌, ◌++◌, map, Bool, true, false, inl, inr, arith}
+use Rattle.std.proofs.Common.{◌≡◌, ◌∙◌, refl, ℕ, ap, ap₂, ◌||◌, not, List, [], ◌∷◌, ◌++◌, map, Bool, true, false, inl, inr, arith}
 use Rattle.std.specs.Prelude.{ℤ, pos, neg_ℤ, ◌≤ℤ◌, int_le}
 use Rattle.std.specs.Int.{int_min, int_max}
 use Rattle.std.specs.List.{fold, list_any, list_all}
@@ -8,10 +8,9 @@ use Rattle.std.proofs.lemmas.Int.{ints, clamps}
 use Rattle.units64.specs.Conversions.{units_of}
 use Rattle.units64.specs.declared.constants.TheConstants.{MAX_UNITS}
 use Rattle.value_model.specs.declared.length_unit.Bases.{Bases}
-use Rattle.calculations_model.specs.Calculations.{Calculation, leaf, sum, scaled, divided, smallest, largest, Calculations, no_calculations, calculation, leaves, all_leaves, with_leaves, all_with_leaves, number_sum, number_product, number_quotient, value_by, values_by, literal_value, calculation_value, computed_leaf, computed_length, leaf_value, used_length, is_percentage, has_percentage}
+use Rattle.value_model.specs.Calculations.{Calculation, leaf, sum, scaled, divided, smallest, largest, Calculations, no_calculations, calculation, leaves, all_leaves, with_leaves, all_with_leaves, number_sum, number_product, number_quotient, value_by, values_by, literal_value, calculation_value, computed_leaf, computed_length, leaf_value, used_length, units_from_zero, is_percentage, has_percentage}
 use Rattle.value_model.specs.Lengths.{Length, dimension, percentage, in_clamped_units}
-use Rattle.value_laws.specs.ComputedForms.{is_units_from}
-use Rattle.calculations_laws.specs.ComputedLengths.{is_length, is_percent, is_of_units, is_mixed, are_units, UsesWhatIsDeclared}
+use Rattle.calculations_laws.specs.ComputedLengths.{is_units_from, is_length, is_percent, is_of_units, is_mixed, are_units, UsesWhatIsDeclared}
 
 -- ---- numbers
 
@@ -103,6 +102,24 @@ any-length b c = elim (cases_Bool (has_percentage c)) [
         (in-units-greatest (calculation_value b (pos 0) c)),
   ) refl
 ]
+
+natural : (n : ℕ) → pos 0 ≤ℤ pos n
+natural n = omega (arith, ints)
+
+-- what is cut at 0
+pub from-zero : (b : Bases) (base : ℤ) (c : Calculation Length)
+    → is_units_from (pos 0) (units_from_zero b base c) ≡ true
+from-zero b base c =
+    fits-from (pos 0) (int_max (pos 0) (in_clamped_units (calculation_value b base c)))
+    (cut-least (in_clamped_units (calculation_value b base c)))
+    (cut-greatest (in_clamped_units (calculation_value b base c)) MAX_UNITS
+    (in-units-greatest (calculation_value b base c)) (natural _))
+  where
+    cut-least : (n : ℤ) → pos 0 ≤ℤ int_max (pos 0) n
+    cut-least n = omega (arith, ints, clamps)
+
+    cut-greatest : (n most : ℤ) → n ≤ℤ most → pos 0 ≤ℤ most → int_max (pos 0) n ≤ℤ most
+    cut-greatest n most h k = omega (arith, ints, clamps)
 
 -- ---- used values
 

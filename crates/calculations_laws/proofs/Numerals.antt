@@ -9,7 +9,7 @@ use Rattle.std.proofs.lemmas.Bool.{and_parts, and_from, leb-true, ne_eqb, falseâ
 use Rattle.std.proofs.lemmas.Fmt.{decimal_is_IsNumeral_wide}
 use Rattle.std.proofs.lemmas.Str.Parse.{digit_at}
 use Rattle.units64.specs.declared.constants.TheConstants.{MAX_UNITS}
-use Rattle.value_laws.specs.ComputedForms.{is_units_from}
+use Rattle.calculations_laws.specs.ComputedLengths.{is_units_from}
 use Rattle.calculations_laws.specs.LengthTexts.{IsShort}
 
 -- the number that a text with or without a minus sign is

@@ -8,7 +8,7 @@ use Rattle.std.proofs.lemmas.List.{length-append}
 use Rattle.std.proofs.lemmas.List.Folds.{list_all-append}
 use Rattle.units64.specs.declared.constants.TheConstants.{MAX_UNITS}
 use Rattle.css_model.specs.Classes.{comma}
-use Rattle.calculations_model.specs.Calculations.{ComputedLeaf, in_units, in_pixels, in_percent, ComputedLength, leaf, sum, scaled, divided, smallest, largest, Calculations, no_calculations, calculation, leaves, all_leaves, call_text, length_text, length_texts}
+use Rattle.value_model.specs.Calculations.{ComputedLeaf, in_units, in_pixels, in_percent, ComputedLength, leaf, sum, scaled, divided, smallest, largest, Calculations, no_calculations, calculation, leaves, all_leaves, call_text, length_text, length_texts}
 use Rattle.calculations_laws.specs.ComputedLengths.{is_length, are_units, is_mixed, is_of_units}
 use Rattle.calculations_laws.specs.LengthTexts.{IsShort, HasShortLeaves, HaveShortLeaves, TellsLengthsApart}
 use Rattle.calculations_laws.proofs.Numerals.{signed_value, value-signed, numeral-first, short-units, number_part, past_number, Ends, part-is, past-is, signed-all}

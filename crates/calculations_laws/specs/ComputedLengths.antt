@@ -1,11 +1,14 @@
 -- Which computed lengths there are (CSS Values 4, section 10.11).
-use Rattle.std.specs.Prelude.{◌≡◌, ℤ, neg_ℤ, ◌&&◌, ◌||◌, not, Bool, true, false}
+use Rattle.std.specs.Prelude.{◌≡◌, ℤ, neg_ℤ, ◌&&◌, ◌||◌, not, int_le, Bool, true, false}
 use Rattle.std.specs.List.{list_any, list_all}
 use Rattle.units64.specs.declared.constants.TheConstants.{MAX_UNITS}
 use Rattle.value_model.specs.declared.length_unit.Bases.{Bases}
 use Rattle.value_model.specs.Lengths.{Length}
-use Rattle.calculations_model.specs.Calculations.{Calculation, ComputedLeaf, in_units, in_percent, ComputedLength, leaf, leaves, computed_length, used_length, calculation_value, has_percentage}
-use Rattle.value_laws.specs.ComputedForms.{is_units_from}
+use Rattle.value_model.specs.Calculations.{Calculation, ComputedLeaf, in_units, in_percent, ComputedLength, leaf, leaves, computed_length, used_length, calculation_value, has_percentage}
+
+-- from this number of units to the largest
+abbrev pub is_units_from : ℤ → ℤ → Bool
+is_units_from least n = int_le least n && int_le n MAX_UNITS
 
 -- units by themselves
 abbrev pub are_units : ComputedLength → Bool

@@ -1,6 +1,6 @@
 -- What the text of a computed length tells.
 use Rattle.std.specs.Prelude.{◌≡◌, ℤ, ◌<◌, ◌^◌, unsigned_abs, true, ⊤}
-use Rattle.calculations_model.specs.Calculations.{ComputedLeaf, in_units, in_pixels, in_percent, ComputedLength, leaf, sum, scaled, divided, smallest, largest, Calculations, no_calculations, calculation, length_text}
+use Rattle.value_model.specs.Calculations.{ComputedLeaf, in_units, in_pixels, in_percent, ComputedLength, leaf, sum, scaled, divided, smallest, largest, Calculations, no_calculations, calculation, length_text}
 use Rattle.calculations_laws.specs.ComputedLengths.{is_length}
 
 -- a number of at most 64 digits: of a longer one `decimal` writes the last 64, as of many others

@@ -1,7 +1,7 @@
 //! Laws of what lengths compute to (CSS Values 4, section 10.11).
-ghost use Rattle.calculations_laws.specs.ComputedLengths.{UsesWhatIsDeclared, is_length};
-ghost use Rattle.calculations_model.specs.Calculations.{Calculation, computed_length};
-ghost use Rattle.std.specs.Prelude.{◌≡◌, true};
+ghost use Rattle.calculations_laws.specs.ComputedLengths.{UsesWhatIsDeclared, is_length, is_units_from};
+ghost use Rattle.value_model.specs.Calculations.{Calculation, computed_length, units_from_zero};
+ghost use Rattle.std.specs.Prelude.{◌≡◌, pos, true, ℤ};
 ghost use Rattle.value_model.specs.Lengths.{Length};
 ghost use Rattle.value_model.specs.declared.length_unit.Bases.{Bases};
 
@@ -9,6 +9,12 @@ ghost use Rattle.value_model.specs.declared.length_unit.Bases.{Bases};
 /// percentages.
 pub fn gives_lengths()
     ensures { (b : Bases) (c : Calculation Length) → is_length (computed_length b c) ≡ true }
+{}
+
+/// What may not be below 0, as a font size, computes to units that fit and are not below 0.
+pub fn gives_units_from_zero()
+    ensures { (b : Bases) (base : ℤ) (c : Calculation Length)
+        → is_units_from (pos 0) (units_from_zero b base c) ≡ true }
 {}
 
 /// Where a length has a percentage, its used value is the value of the calculation as it is declared.

@@ -1,7 +1,7 @@
 //! Laws of the texts of computed lengths.
 ghost use Rattle.std.specs.Prelude.{◌*◌, ◌^◌, ◌≡◌, negsuc, pos};
 ghost use Rattle.calculations_laws.specs.LengthTexts.{HasShortLeaves, TellsLengthsApart};
-ghost use Rattle.calculations_model.specs.Calculations.{in_percent, in_pixels, leaf, length_text, scaled, sum};
+ghost use Rattle.value_model.specs.Calculations.{in_percent, in_pixels, leaf, length_text, scaled, sum};
 
 /// Two different computed lengths have different texts, be they calculated or not.
 pub fn tell_lengths_apart()

@@ -15,3 +15,4 @@ pub mod StyleParts
 pub mod BasesOf
 pub mod RulesAt
 pub mod StyleAttribute
+pub mod PartValues

@@ -5,7 +5,7 @@ ghost use Rattle.css_rules.specs.Views.{sheet_view};
 ghost use Rattle.cascade_core.specs.inner.Drafts.{IsDraft, draft_view};
 ghost use Rattle.std.specs.Prelude.{◌≡◌, IfOk, map};
 
-use crate::defaults::defaults;
+use crate::defaults::Defaults;
 use crate::draft::{Draft, add_rules, empty_draft};
 use crate::rule_book::RuleBook;
 use crate::user_agent::user_agent_sheet;
@@ -28,7 +28,7 @@ impl RuleBook {
         Ok(RuleBook {
             rules: draft.rules,
             bodies: draft.bodies,
-            defaults: defaults(alloc)?,
+            defaults: Defaults::new(alloc)?,
         })
     }
 

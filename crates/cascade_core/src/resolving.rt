@@ -6,36 +6,15 @@ ghost use Rattle.cascade_model.specs.StyleEquation as equation;
 ghost use Rattle.prop_table.specs.Styles.{style_view};
 ghost use Rattle.prop_table.specs.Views.{final_view};
 ghost use Rattle.std.specs.Option.{option_copied};
-ghost use Rattle.std.specs.Prelude.{◌≡◌, IfOk, length, map, option_map};
+ghost use Rattle.std.specs.Prelude.{◌≡◌, IfOk, option_map};
 
 use crate::borders::{is_no_border, no_width, style_of_border};
 use crate::choices::{Choice, choice_for};
 use crate::given::Given;
-use crate::shared::shared;
-use port_core::{NoMemory, Seq};
+use port_core::NoMemory;
 use prop_table::{Bases, Computed, Final, Keyword, Prop, Style, compute, initial};
 use std::alloc::Global;
-use std::rc::Rc;
 use units64::Units;
-
-/// The values of some properties.
-pub(crate) fn part(
-    alloc: Global,
-    g: &Given<'_>,
-    own: &Bases,
-    props: &[Prop],
-) -> Result<Rc<Seq<Final>>, NoMemory>
-    requires { own.now ≡ equation.own_bases (given_view g.now) }
-    ensures values { IfOk result (λ part. style_view part.value
-        ≡ map (equation.final_value (given_view g.now)) props.now) }
-    ensures count { IfOk result (λ part. length part.value ≡ length props.now) }
-{
-    let mut part = Seq::new(alloc);
-    for prop in props {
-        part.push(final_value(alloc, g, own, *prop)?)?;
-    }
-    shared(alloc, part)
-}
 
 /// What lengths refer to in all properties but `font-size`.
 pub(crate) fn own_bases(alloc: Global, g: &Given<'_>) -> Result<Bases, NoMemory>
@@ -70,7 +49,12 @@ fn units_of(value: &Final) -> Units
 }
 
 /// The value of a property; the root is a block (CSS 2.1, section 9.7).
-fn final_value(alloc: Global, g: &Given<'_>, own: &Bases, prop: Prop) -> Result<Final, NoMemory>
+pub(crate) fn final_value(
+    alloc: Global,
+    g: &Given<'_>,
+    own: &Bases,
+    prop: Prop,
+) -> Result<Final, NoMemory>
     requires { own.now ≡ equation.own_bases (given_view g.now) }
     ensures { IfOk result (λ f. final_view f ≡ equation.final_value (given_view g.now) prop) }
 {

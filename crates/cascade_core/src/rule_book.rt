@@ -1,11 +1,10 @@
 //! The rules of a page (CSS Cascade 4, section 6.2).
-ghost use Rattle.cascade_core.specs.Defaults.{AreDefaults};
 ghost use Rattle.cascade_core.specs.Numbers.{AreNumbered};
 ghost use Rattle.std.specs.Prelude.{◌≡◌, length};
 
+use crate::defaults::Defaults;
 use crate::rule_body::RuleBody;
 use port_core::Seq;
-use prop_table::Style;
 use selectors::RuleList;
 
 /// The rules of the user agent, and then those of each sheet, in the order of their texts.
@@ -15,9 +14,8 @@ use selectors::RuleList;
 pub struct RuleBook {
     pub(crate) rules: RuleList,
     pub(crate) bodies: Seq<RuleBody>,
-    /// The values of an element without a declaration, whose parts styles share.
-    pub(crate) defaults: Style,
+    /// The styles of elements of which nothing is declared but `display`. Styles share their parts.
+    pub(crate) defaults: Defaults,
     ghost numbered: { AreNumbered rules },
     ghost paired: { length rules ≡ length bodies },
-    ghost initial: { AreDefaults defaults },
 }

@@ -11,7 +11,8 @@ ghost use Rattle.stream_model.specs.declared.kind.Kind.TheVariants as kinds;
 
 use crate::answer_list::Answers;
 use crate::given::Given;
-use crate::resolving::{own_bases, part};
+use crate::parts::part;
+use crate::resolving::own_bases;
 use crate::styled::Styled;
 use crate::winners::Winners;
 use port_core::{Kind, NoMemory, NodeId, Steps};
@@ -80,8 +81,41 @@ fn style(alloc: Global, g: &Given<'_>) -> Result<Style, NoMemory>
     ensures { IfOk result (λ s. style_view s ≡ style_of (given_view g.now)) }
 {
     let own = own_bases(alloc, g)?;
-    let boxes = part(alloc, g, &own, &all_props()[..15])?;
-    let borders = part(alloc, g, &own, &all_props()[15..27])?;
-    let rest = part(alloc, g, &own, &all_props()[27..])?;
+    let near = nearest(g);
+    let defaults = &g.winners.defaults;
+    let boxes = part(
+        alloc,
+        g,
+        &own,
+        &all_props()[..15],
+        &[
+            near.boxes(),
+            defaults.inline.boxes(),
+            defaults.block.boxes(),
+        ],
+    )?;
+    let borders = part(
+        alloc,
+        g,
+        &own,
+        &all_props()[15..27],
+        &[near.borders(), defaults.block.borders()],
+    )?;
+    let rest = part(
+        alloc,
+        g,
+        &own,
+        &all_props()[27..],
+        &[near.rest(), defaults.block.rest()],
+    )?;
     Ok(Style::of_parts(boxes, borders, rest))
+}
+
+/// The style whose parts are most often the same: that of the parent, or for the root, a block,
+/// that of a block of which nothing else is declared.
+fn nearest<'a>(g: &Given<'a>) -> &'a Style {
+    match g.parent {
+        Some(parent) => parent,
+        None => &g.winners.defaults.block,
+    }
 }

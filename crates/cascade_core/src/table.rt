@@ -22,6 +22,11 @@ impl Model for Table {
 
     ghost Value = { List (Option applied) };
 
+    ghost use Rattle.query_units.specs.contracts.length.Length as a_length;
+    ghost use Rattle.std.specs.Coded.{codes};
+
+    ghost coded = { Prim.hlevel (codes, a_length.the_row.coded) };
+
     ghost view = { λ t. t.entries };
 
     ghost invariant = { λ t. length t.entries ≡ 45 };

@@ -6,11 +6,11 @@ ghost use Rattle.cascade_model.specs.declared.origin.Origin.TheVariants as origi
 ghost use Rattle.std.specs.Prelude.{◌≡◌, [], ◌∷◌, IfOk, OnOk};
 
 use crate::applied::Place;
+use crate::defaults::Defaults;
 use crate::kept::Kept;
 use crate::table::Table;
 use cascade_model::Origin;
 use port_core::{NoMemory, Seq};
-use prop_table::Style;
 use std::alloc::Global;
 
 /// For each property the declaration that wins, and the one that wins among those of the user
@@ -26,8 +26,8 @@ pub(crate) struct BothTables {
 pub struct Winners {
     pub(crate) all: Table,
     pub(crate) user_agent: Table,
-    /// The values of an element without a declaration, whose parts may be shared.
-    pub(crate) defaults: Style,
+    /// The styles of elements of which nothing is declared but `display`, to be shared.
+    pub(crate) defaults: Defaults,
 }
 
 /// No declaration.

@@ -10,7 +10,7 @@ use Rattle.value_model.specs.declared.prop.Prop.TheVariants.{Display, FontSize, 
 use Rattle.value_model.specs.declared.wide_keyword.WideKeyword.{WideKeyword}
 use Rattle.value_model.specs.declared.wide_keyword.WideKeyword.TheVariants.{Inherit, Initial, Unset, Revert}
 use Rattle.value_model.specs.Computing.{computed}
-use Rattle.value_model.specs.Lengths.{in_units}
+use Rattle.value_model.specs.Calculations.{in_units, leaf}
 use Rattle.value_model.specs.Properties.{property, prop_place, is_same_prop, pixels}
 use Rattle.value_model.specs.Values.{Value, wide_keyword, color_value, Final, keyword, length}
 use Rattle.cascade_model.specs.declared.origin.Origin.{Origin}
@@ -136,7 +136,7 @@ root_value p v = v
 
 -- what a length in units is
 abbrev pub units_of_final : Final → ℤ
-units_of_final (length (in_units n)) = n
+units_of_final (length (leaf (in_units n))) = n
 units_of_final v = pos 0
 
 -- the font size of a style, in units

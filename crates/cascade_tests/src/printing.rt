@@ -8,7 +8,8 @@ pub(crate) fn print_final(alloc: Global, value: &Final) -> Result<String, NoMemo
     match value {
         Final::Keyword(keyword) => text_of(alloc, keyword_text(*keyword)),
         Final::Length(Computed::Units(length)) => format!(in alloc; "{}", length.get()),
-        Final::Length(Computed::Percent(number)) => format!(in alloc; "%{}", number.get()),
+        Final::Length(Computed::Pct(number)) => format!(in alloc; "%{}", number.get()),
+        Final::Length(_) => text_of(alloc, "calculated"),
         Final::Number(number) | Final::Alpha(number) => format!(in alloc; "{}", number.get()),
         Final::Integer(integer) => format!(in alloc; "{integer}"),
         Final::Color(color) => print_color(alloc, *color),

@@ -13,7 +13,7 @@ use Rattle.conditions_model.specs.declared.orientation.Orientation.{Orientation 
 use Rattle.conditions_model.specs.declared.orientation.Orientation.TheVariants.{Portrait, Landscape}
 use Rattle.conditions_model.specs.declared.tri.Tri.{Tri}
 use Rattle.conditions_model.specs.TriTables.{tri}
-use Rattle.value_model.specs.Lengths.{length_value}
+use Rattle.value_model.specs.Calculations.{calculation_value}
 use Rattle.conditions_model.specs.SizeFeatures.{FeatureValue, length_value as a_length, ratio_value, Bound, SizeFeature, boolean, orientation_is, bounded}
 
 -- what features are judged on: a width and a height, in units, and what lengths refer to
@@ -38,7 +38,7 @@ measured_side m other = m.width
 -- how a feature stands to a value, without loss: a side to a length; width / height to a ratio, by
 -- products
 abbrev pub order_of : Measured → FeatureName → FeatureValue → Ordering
-order_of m f (a_length l) = int_cmp (millionths_of (measured_side m f)) (length_value m.bases l)
+order_of m f (a_length l) = int_cmp (millionths_of (measured_side m f)) (calculation_value m.bases (pos 0) l)
 order_of m f (ratio_value across down) = int_cmp (m.width *ℤ down) (across *ℤ m.height)
 
 abbrev pub meets : Measured → FeatureName → Bound → Bool

@@ -3,6 +3,7 @@ pub mod ConditionTrees
 pub mod ConditionWords
 pub mod Conditions
 pub mod SizeFeatures
+pub mod FeatureCode
 pub mod FeatureValues
 pub mod MediaQueries
 pub mod inner

@@ -18,11 +18,13 @@ use Rattle.conditions_model.specs.declared.orientation.Orientation.{Orientation 
 use Rattle.conditions_model.specs.declared.orientation.Orientation.TheVariants.{Portrait, Landscape}
 use Rattle.conditions_model.specs.ConditionWords.{is_keyword}
 use Rattle.conditions_model.specs.Conditions.{is_round_type}
-use Rattle.value_model.specs.Lengths.{Length, length_of}
+use Rattle.value_model.specs.CalculationGrammar.{any_length_of}
+use Rattle.value_model.specs.Calculations.{Calculation}
+use Rattle.value_model.specs.Lengths.{Length}
 
--- what a feature is compared with: a length, or a ratio in millionths
+-- what a feature is compared with: a length, literal or calculated, or a ratio in millionths
 pub data FeatureValue : Type 0 where
-  length_value : Length → FeatureValue
+  length_value : Calculation Length → FeatureValue
   ratio_value : (across down : ℤ) → FeatureValue
 
 -- a comparison of a feature, and what it is compared with
@@ -105,8 +107,8 @@ ratio_of other = None
 
 -- a value of this feature that can be compared; `orientation` has none
 abbrev pub value_of : FeatureName → Components → Option FeatureValue
-value_of Width cs = option_map length_value (option_and_then length_of (only_component (trimmed cs)))
-value_of Height cs = option_map length_value (option_and_then length_of (only_component (trimmed cs)))
+value_of Width cs = option_map length_value (option_and_then (any_length_of false) (only_component (trimmed cs)))
+value_of Height cs = option_map length_value (option_and_then (any_length_of false) (only_component (trimmed cs)))
 value_of AspectRatio cs = ratio_of (without_whitespace cs)
 value_of Orientation cs = None
 

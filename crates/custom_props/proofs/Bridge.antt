@@ -1,5 +1,5 @@
 -- What is reached by places is what is reached by names.
-use Rattle.std.proofs.Common.{◌≡◌, ◌∙◌, ◌⊎◌, ap, sym, refl, subst, ℕ, zero, suc, ◌<◌, length, get_or, map, filter_map, arith, List, [], ◌∷◌, ◌++◌, Bool, true, false, inl, inr, Option, Some, None, option_map, option_and_then, unwrap_or}
+use Rattle.std.proofs.Common.{◌≡◌, ◌∙◌, ap, sym, refl, subst, ℕ, zero, suc, ◌<◌, length, get_or, map, filter_map, arith, List, [], ◌∷◌, ◌++◌, true, inl, inr, Option, Some, None, option_map, option_and_then, unwrap_or}
 use Rattle.std.specs.List.{cons_option, list_any}
 use Rattle.std.proofs.lemmas.Bool.{cases_Bool, false≢true}
 use Rattle.std.proofs.lemmas.Option.{none-some, same_Some}
@@ -7,17 +7,17 @@ use Rattle.css_model.specs.Classes.{Text}
 use Rattle.css_model.specs.Components.{Component, Components, component}
 use Rattle.page_model.specs.Attributes.{is_same_text}
 use Rattle.page_laws.proofs.AttributesInOrder.{same-text, text-same}
-use Rattle.page_laws.proofs.Options.{none-or-some, true-or, true-or-left, true-or-right}
+use Rattle.page_laws.proofs.Options.{true-or, true-or-left, true-or-right}
 use Rattle.custom_model.specs.Cycles.{refers, IsReached, directly, through}
 use Rattle.custom_model.specs.NamedValues.{NamedValues, value_named, names_of}
 use Rattle.custom_model.specs.References.{Reference, all_vars_in, names_in, reference_in, vars_in}
 use Rattle.custom_laws.proofs.Reached.{named-among, refers-named}
-use Rattle.custom_props.specs.inner.Graphs.{Graph, IsIn, IsWithin, Leads, at_once, by_way, graph_of, place_in, places_in, places_of, successors}
+use Rattle.custom_props.specs.inner.Graphs.{IsIn, IsWithin, Leads, at_once, by_way, graph_of, place_in, places_in, places_of, successors}
 use Rattle.custom_props.specs.inner.Places.{place_of}
 
 -- ---- places of names
 
-place-some : (name : Text) (names : List Text) → list_any (is_same_text name) names ≡ true
+pub place-some : (name : Text) (names : List Text) → list_any (is_same_text name) names ≡ true
     → (x : ℕ) × (place_of name names ≡ Some x)
 place-some name [] h = absurd (false≢true h)
 place-some name (n ∷ names) h = elim (cases_Bool (is_same_text name n)) [
@@ -27,7 +27,7 @@ place-some name (n ∷ names) h = elim (cases_Bool (is_same_text name n)) [
       (suc rest.0, rw (f, rest.1) refl)
 ]
 
-suc-some : (o : Option ℕ) (x : ℕ) → option_map suc o ≡ Some x → (y : ℕ) × (o ≡ Some y) × (x ≡ suc y)
+pub suc-some : (o : Option ℕ) (x : ℕ) → option_map suc o ≡ Some x → (y : ℕ) × (o ≡ Some y) × (x ≡ suc y)
 suc-some None x h = absurd (none-some x h)
 suc-some (Some y) x h = (y, refl, sym (same_Some (suc y) x h))
 
@@ -146,7 +146,7 @@ to-name names y (contents ∷ vars) i =
 -- ---- of declared names
 
 module _ (declared : NamedValues) where
-  place-named : (name : Text) (value : Components) → value_named declared name ≡ Some value
+  pub place-named : (name : Text) (value : Components) → value_named declared name ≡ Some value
       → (x : ℕ) × (place_of name (names_of declared) ≡ Some x)
   place-named name value h = place-some name (names_of declared) (named-among declared name value h)
 
@@ -162,7 +162,7 @@ module _ (declared : NamedValues) where
         ap (λ o. list_any (is_same_text found.0) (unwrap_or (option_map names_in o) [])) here.1 ∙ found.2,
       )
 
-  refers-successor : (n m : Text) (x y : ℕ) → place_of n (names_of declared) ≡ Some x
+  pub refers-successor : (n m : Text) (x y : ℕ) → place_of n (names_of declared) ≡ Some x
       → place_of m (names_of declared) ≡ Some y → refers declared n m ≡ true
       → IsIn y (successors (graph_of declared) x)
   refers-successor n m x y p q r =

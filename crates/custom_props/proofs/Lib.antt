@@ -11,3 +11,8 @@ pub mod RoomSteps
 pub mod Marking
 pub mod Ordering
 pub mod Bridge
+pub mod MergedEntries
+pub mod FilledTables
+pub mod EnvironmentFound
+pub mod SameParts
+pub mod SameLists

@@ -1,7 +1,7 @@
 -- Marks of places, and a search by marks.
 use Rattle.std.proofs.Common.{◌≡◌, ◌∙◌, ◌⊎◌, ◌↔◌, ap, sym, refl, subst, ℕ, zero, suc, ◌+◌, ◌<◌, List, [], ◌∷◌, ◌++◌, length, length-append, get_or, take, add-one, Bool, true, false, inl, inr, None, arith}
 use Rattle.std.specs.Prelude.{replicate, slice_get, slice_set}
-use Rattle.std.proofs.lemmas.Bool.{cases_Bool, false≢true}
+use Rattle.std.proofs.lemmas.Bool.{false≢true}
 use Rattle.std.proofs.lemmas.Option.{none-some}
 use Rattle.custom_props.specs.inner.Graphs.{Graph, IsIn, Leads, at_once, by_way, Marks, Searches, is_marked, successors, unmarked}
 

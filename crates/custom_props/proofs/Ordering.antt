@@ -1,12 +1,12 @@
 -- Places put in order, task by task.
-use Rattle.std.proofs.Common.{◌≡◌, ◌∙◌, ◌⊎◌, ap, sym, refl, subst, ℕ, zero, suc, ◌+◌, ◌<◌, ◌≤◌, List, [], ◌∷◌, ◌++◌, length, length-append, get_or, map, Bool, true, false, inl, inr, arith}
+use Rattle.std.proofs.Common.{◌≡◌, ◌∙◌, ◌⊎◌, ap, sym, refl, subst, ℕ, zero, suc, ◌+◌, ◌<◌, ◌≤◌, List, [], ◌∷◌, ◌++◌, length, length-append, Bool, true, false, inl, inr, arith}
 use Rattle.std.specs.Prelude.{replicate, slice_set}
-use Rattle.std.proofs.lemmas.Bool.{cases_Bool, cases_lt, false≢true}
+use Rattle.std.proofs.lemmas.Bool.{cases_lt, false≢true}
 use Rattle.custom_props.specs.declared.orders.Task.{Task}
 use Rattle.custom_props.specs.declared.orders.Task.TheVariants.{Enter, Leave}
 use Rattle.custom_props.specs.inner.Graphs.{AreOrdered, Graph, IsIn, IsOrder, IsWithin, Leads, at_once, is_marked, successors}
 use Rattle.custom_props.specs.inner.Walks.{AreAllEntered, AreNested, Enters, IsEntered, IsLeft, LeadsToAll, Orders, entered, place_of_task, tasks_ahead}
-use Rattle.custom_props.proofs.Marking.{in-left, in-right, in-split, leads-then, none-marked, repeat-length, set-at, set-kept, set-length, set-only}
+use Rattle.custom_props.proofs.Marking.{in-left, in-right, leads-then, none-marked, repeat-length, set-at, set-kept, set-length, set-only}
 
 -- ---- lists of tasks
 

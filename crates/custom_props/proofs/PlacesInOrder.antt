@@ -15,13 +15,13 @@ use Rattle.custom_props.specs.inner.Places.{order_of, place_of}
 
 -- ---- order
 
-less-other : (n m : Text) → is_less_text n m ≡ true → is_same_text n m ≡ false
+pub less-other : (n m : Text) → is_less_text n m ≡ true → is_same_text n m ≡ false
 less-other n m l = elim (cases_Bool (is_same_text n m)) [
   | inl t ↦ absurd (false≢true (sym (not-less n) ∙ (ap (is_less_text n) (same-text n m t) ∙ l)))
   | inr f ↦ f
 ]
 
-more-other : (n m : Text) → is_less_text m n ≡ true → is_same_text n m ≡ false
+pub more-other : (n m : Text) → is_less_text m n ≡ true → is_same_text n m ≡ false
 more-other n m l = elim (cases_Bool (is_same_text n m)) [
   | inl t ↦ absurd (false≢true (sym (not-less n) ∙ (ap (λ x. is_less_text x n) (same-text n m t) ∙ l)))
   | inr f ↦ f

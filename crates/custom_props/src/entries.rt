@@ -1,18 +1,20 @@
 //! Entries of names.
 ghost use Rattle.css_tokens.specs.Nested.{components_view};
 ghost use Rattle.custom_model.specs.NamedValues.{are_in_order, names_of, value_named};
-ghost use Rattle.custom_props.specs.Views.{values_view};
+ghost use Rattle.custom_props.specs.Views.{value_view, values_view};
 ghost use Rattle.custom_model.specs.Substitution.{entry_of_reference};
-ghost use Rattle.custom_props.specs.inner.Entries.{entries_of, entry_in_table};
+ghost use Rattle.custom_props.specs.inner.Entries.{entries_of};
+ghost use Rattle.custom_props.specs.inner.EntryViews.{entry_in, entry_view};
 ghost use Rattle.std.specs.Option.{option_copied};
-ghost use Rattle.std.specs.Prelude.{◌≡◌, option_map, true};
+ghost use Rattle.std.specs.Prelude.{◌≡◌, IfOk, Some, option_map, true};
 
+use crate::entry::Entry;
 use crate::known::Known;
 use crate::named_value::NamedValue;
 use crate::places::place_of;
 use crate::references::name_in;
 use css_tokens::{Component, Components};
-use port_core::Text;
+use port_core::{NoMemory, Text};
 
 /// The value of `name`, if it has one.
 pub(crate) fn value_named<'a>(values: &'a [NamedValue], name: &Text) -> Option<&'a Components>
@@ -26,15 +28,42 @@ pub(crate) fn value_named<'a>(values: &'a [NamedValue], name: &Text) -> Option<&
     }
 }
 
-/// The entry of the declared name in this place.
-fn entry_in_table<'a>(known: &Known<'a>, place: usize) -> Option<&'a Components>
-    ensures { option_map components_view (option_copied result)
-        ≡ entry_in_table known.entry.now place }
+/// The entry of `name` that is inherited.
+pub(crate) fn inherited_entry(values: &[NamedValue], name: &Text) -> Result<Entry, NoMemory>
+    requires { are_in_order (names_of (values_view values.now)) ≡ true }
+    ensures { IfOk result (λ e. entry_view e ≡ value_named (values_view values.now) name.now) }
 {
-    match known.table.get(place)? {
+    match place_of(values, name.as_str()) {
+        Some(place) => entry_with(&values[place]),
+        None => Ok(Entry { value: None }),
+    }
+}
+
+/// The entry that a value is.
+fn entry_with(value: &NamedValue) -> Result<Entry, NoMemory>
+    ensures { IfOk result (λ e. entry_view e ≡ Some (value_view value.now).1) }
+{
+    Ok(Entry {
+        value: Some(value.value.clone()?),
+    })
+}
+
+/// The value of an entry, if it has one.
+fn value_of(entry: &Entry) -> Option<&Components>
+    ensures { option_map components_view (option_copied result) ≡ entry_view entry.now }
+{
+    match &entry.value {
         Some(value) => Some(&**value),
         None => None,
     }
+}
+
+/// The entry of the declared name in this place.
+fn entry_in_table<'a>(known: &Known<'a>, place: usize) -> Option<&'a Components>
+    ensures { option_map components_view (option_copied result)
+        ≡ entry_in known.entry.now.table.now place }
+{
+    value_of(known.table.get(place)?)
 }
 
 /// The entry of `name`, if it has one.

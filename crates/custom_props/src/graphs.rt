@@ -25,7 +25,7 @@ pub(crate) fn successors(graph: &[Seq<usize>], place: usize) -> &[usize]
 }
 
 /// Of each declared name, the places of the declared names to which its value refers.
-pub fn graph_of(alloc: Global, declared: &[NamedValue]) -> Result<Seq<Seq<usize>>, NoMemory>
+pub(crate) fn graph_of(alloc: Global, declared: &[NamedValue]) -> Result<Seq<Seq<usize>>, NoMemory>
     requires { are_in_order (names_of (values_view declared.now)) ≡ true }
     ensures { IfOk result (λ graph. graph ≡ graphs.graph_of (values_view declared.now)) }
 {

@@ -18,7 +18,7 @@ pub(crate) enum Task {
 }
 
 /// All places in order. Each task is done once, so the time grows with the references.
-pub fn order_of(alloc: Global, graph: &[Seq<usize>]) -> Result<Seq<usize>, NoMemory>
+pub(crate) fn order_of(alloc: Global, graph: &[Seq<usize>]) -> Result<Seq<usize>, NoMemory>
     requires { IsWithin graph.now }
     ensures { IfOk result (λ order. IsOrder graph.now order) }
 {

@@ -13,7 +13,7 @@ ghost use Rattle.rules_model.specs.ComponentLists as lists;
 use crate::values::is_declaration_value;
 use css_tokens::{Component, TokenType, is_word};
 use port_core::Text;
-use query_units::is_whitespace;
+use value_parts::{ident_of, is_whitespace};
 
 /// Whether this is `var(`, in any case.
 pub(crate) fn is_var_type(token_type: &TokenType) -> bool
@@ -32,25 +32,6 @@ pub(crate) fn is_comma(c: &Component) -> bool
     match c {
         Component::One(token) => matches!(&token.token_type, TokenType::Comma),
         _ => false,
-    }
-}
-
-/// The name of the identifier that `c` is, if it is one.
-fn ident_of(c: &Component) -> Option<&Text>
-    ensures { option_copied result ≡ lists.ident_of (component_view c.now) }
-{
-    match c {
-        Component::One(token) => ident_of_type(&token.token_type),
-        _ => None,
-    }
-}
-
-fn ident_of_type(token_type: &TokenType) -> Option<&Text>
-    ensures { option_copied result ≡ lists.ident_of_type token_type.now }
-{
-    match token_type {
-        TokenType::Ident(name) => Some(name),
-        _ => None,
     }
 }
 

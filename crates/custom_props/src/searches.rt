@@ -1,6 +1,7 @@
 //! Whether a place is on a cycle of references (CSS Custom Properties 1, section 2.3).
 ghost use Rattle.custom_props.specs.inner.Graphs.{IsIn, IsWithin, Leads, Marks, is_marked};
-ghost use Rattle.std.specs.Prelude.{◌≡◌, ◌<◌, ◌↔◌, IfOk, IsTrue, OnOk, [], ◌∷◌, false, length, replicate, ℕ};
+ghost use Rattle.std.specs.List.{list_all};
+ghost use Rattle.std.specs.Prelude.{◌≡◌, ◌<◌, ◌↔◌, IfOk, IsTrue, OnOk, [], ◌∷◌, false, true, length, replicate, ℕ};
 
 use crate::graphs::successors;
 use port_core::{NoMemory, Seq};
@@ -24,7 +25,7 @@ pub(crate) fn is_marked(marks: &Seq<bool>, place: usize) -> bool
 }
 
 /// Whether a place leads back to itself.
-pub fn is_on_cycle(alloc: Global, graph: &[Seq<usize>], start: usize) -> Result<bool, NoMemory>
+fn is_on_cycle(alloc: Global, graph: &[Seq<usize>], start: usize) -> Result<bool, NoMemory>
     requires start { start < length graph.now }
     requires within { IsWithin graph.now }
     ensures { IfOk result (λ on_cycle. IsTrue on_cycle ↔ Leads graph.now start start) }
@@ -36,6 +37,37 @@ pub fn is_on_cycle(alloc: Global, graph: &[Seq<usize>], start: usize) -> Result<
         mark_all(successors(graph, place), &mut marks, &mut pending)?;
     }
     Ok(is_marked(&marks, start))
+}
+
+/// Whether a place leads back to itself, where the marked places are known not to. There is a search
+/// only where it refers to a place without a mark.
+pub(crate) fn is_on_cycle_beside(
+    alloc: Global,
+    graph: &[Seq<usize>],
+    start: usize,
+    off_cycles: &Seq<bool>,
+) -> Result<bool, NoMemory>
+    requires start { start < length graph.now }
+    requires within { IsWithin graph.now }
+    requires off_cycles { (y : ℕ) → is_marked off_cycles.now y ≡ true → Leads graph.now y y → ⊥ }
+    ensures { IfOk result (λ on_cycle. IsTrue on_cycle ↔ Leads graph.now start start) }
+{
+    if are_marked(successors(graph, start), off_cycles) {
+        return Ok(false);
+    }
+    is_on_cycle(alloc, graph, start)
+}
+
+/// Whether all these places are marked.
+fn are_marked(places: &[usize], marks: &Seq<bool>) -> bool
+    ensures { result ≡ list_all (is_marked marks.now) places.now }
+{
+    for place in places {
+        if !is_marked(marks, *place) {
+            return false;
+        }
+    }
+    true
 }
 
 /// Marks these places; those that were not marked are to be looked at.

@@ -1,6 +1,10 @@
-//! Tests of custom properties: values with `var()`, and what they are after substitution.
+//! Tests of custom properties: values with `var()`, what they are after substitution, and environments.
 #![tactic(auto)]
 
+#[cfg(test)]
+mod chains;
+#[cfg(test)]
+mod environments;
 #[cfg(test)]
 mod names;
 #[cfg(test)]

@@ -1,5 +1,5 @@
 //! Component values of texts, and their spellings.
-use css_tokens::{Component, Components, Token, components, tokenize};
+use css_tokens::{Component, Components, Token, TokenType, components, tokenize};
 use custom_props::Env;
 use port_core::{NoMemory, Text};
 use std::alloc::Global;
@@ -58,4 +58,51 @@ fn spell_close(close: &Option<Token>, text: &mut String) -> Result<(), NoMemory>
         Some(token) => text.push_str(token.spelling.as_str()),
         None => Ok(()),
     }
+}
+
+/// Writes the spellings of tokens other than white space, each after a space but for the first.
+#[cycle(printing)]
+pub fn print(components: &[Component], text: &mut String) -> Result<(), NoMemory> {
+    for c in components {
+        print_one(c, text)?;
+    }
+    Ok(())
+}
+
+#[cycle(printing)]
+fn print_one(c: &Component, text: &mut String) -> Result<(), NoMemory> {
+    match c {
+        Component::One(token) => print_token(token, text),
+        Component::Block(head, contents, close) | Component::Function(head, contents, close) => {
+            print_token(head, text)?;
+            print(contents.as_slice(), text)?;
+            print_close(close, text)
+        }
+    }
+}
+
+fn print_close(close: &Option<Token>, text: &mut String) -> Result<(), NoMemory> {
+    match close {
+        Some(token) => print_token(token, text),
+        None => Ok(()),
+    }
+}
+
+fn print_token(token: &Token, text: &mut String) -> Result<(), NoMemory> {
+    if matches!(&token.token_type, TokenType::Whitespace) {
+        return Ok(());
+    }
+    if !text.is_empty() {
+        text.push_str(" ")?;
+    }
+    text.push_str(token.spelling.as_str())
+}
+
+/// `count` times a text.
+pub fn times(alloc: Global, text: &str, count: usize) -> Result<String, Fail> {
+    let mut all = String::new(alloc);
+    for _ in 0..count {
+        all.push_str(text)?;
+    }
+    Ok(all)
 }

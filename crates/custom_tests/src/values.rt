@@ -1,5 +1,5 @@
 //! Rows of entries, of a value, and of what the value is after substitution.
-use crate::texts::{append, components_of, env_of, spell};
+use crate::texts::{append, components_of, env_of, spell, times};
 use custom_props::{Env, Substituted, substitute};
 use std::alloc::Global;
 use std::test::Fail;
@@ -48,15 +48,6 @@ fn rows(rt: HostRuntime) -> Result<(), Fail> {
         }
     }
     Ok(())
-}
-
-/// `count` times a text.
-fn times(alloc: Global, text: &str, count: usize) -> Result<String, Fail> {
-    let mut all = String::new(alloc);
-    for _ in 0..count {
-        all.push_str(text)?;
-    }
-    Ok(all)
 }
 
 /// Whether a value is valid after substitution where `--a` is so many `x` and spaces.

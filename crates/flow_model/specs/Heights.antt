@@ -3,7 +3,7 @@ use Rattle.std.specs.Prelude.{ℤ, pos, ◌+ℤ◌, ◌&&◌, if◌then◌else�
 use Rattle.std.specs.Int.{int_max}
 use Rattle.value_model.specs.declared.prop.Prop.{Prop}
 use Rattle.value_model.specs.declared.prop.Prop.TheVariants.{BoxSizing, Overflow, Height, MinHeight, MaxHeight, MarginTop, MarginBottom, PaddingTop, PaddingBottom, BorderTopWidth, BorderBottomWidth}
-use Rattle.value_model.specs.Lengths.{ComputedLength}
+use Rattle.value_model.specs.Calculations.{ComputedLength}
 use Rattle.value_model.specs.Values.{Final, length}
 use Rattle.flow_model.specs.declared.containing.Containing.{Containing}
 use Rattle.flow_model.specs.declared.effects.Effects.{Effects}

@@ -5,7 +5,8 @@ use Rattle.units64.specs.Limits.{clamped_units}
 use Rattle.value_model.specs.declared.keyword.Keyword.TheVariants.{BorderBox}
 use Rattle.value_model.specs.declared.prop.Prop.{Prop}
 use Rattle.value_model.specs.declared.prop.Prop.TheVariants.{BoxSizing}
-use Rattle.value_model.specs.Lengths.{ComputedLength, in_units, used_length, in_clamped_units}
+use Rattle.value_model.specs.Calculations.{ComputedLength, in_units, leaf, used_length}
+use Rattle.value_model.specs.Lengths.{in_clamped_units}
 use Rattle.value_model.specs.Values.{Final, keyword, length}
 
 -- the computed values of an element
@@ -16,7 +17,7 @@ Values = Prop → Final
 
 -- what a length without a percentage is by itself
 abbrev pub fixed_length : ComputedLength → Option ℤ
-fixed_length (in_units n) = Some n
+fixed_length (leaf (in_units n)) = Some n
 fixed_length l = None
 
 abbrev pub has_percentage : ComputedLength → Bool

@@ -24,8 +24,8 @@ pub(crate) struct MediaFeatures;
 impl ReadFeature<SizeFeature> for MediaFeatures {
     ghost reads = { λ _. λ c. size_feature media_names c };
 
-    fn read(&self, _alloc: Global, c: &Component) -> Result<Option<SizeFeature>, NoMemory> {
-        Ok(read_size_feature(FeatureNames::Media, c))
+    fn read(&self, alloc: Global, c: &Component) -> Result<Option<SizeFeature>, NoMemory> {
+        read_size_feature(alloc, FeatureNames::Media, c)
     }
 }
 

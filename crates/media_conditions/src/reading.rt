@@ -12,9 +12,9 @@ use crate::typed::query_with_type;
 use conditions_model::MediaType;
 use css_tokens::{Component, Components};
 use port_core::{NoMemory, Seq};
-use query_units::is_whitespace;
 use std::alloc::Global;
 use tri_conditions::read_condition_slice;
+use value_parts::is_whitespace;
 
 /// Returns the list of media queries that `c` is; a query that does not parse is `not all`.
 ///

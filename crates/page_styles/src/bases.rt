@@ -1,8 +1,9 @@
 //! What lengths refer to in a page without containers (CSS Values 4, section 6.1).
-ghost use Rattle.cascade_model.specs.Defaulting.{font_size_in};
+ghost use Rattle.cascade_model.specs.Defaulting.{font_size_in, units_of_final};
 ghost use Rattle.cascade_model.specs.DocumentStyles as model;
 ghost use Rattle.page_model.specs.declared.limits.TheConstants.{MAX_SIDE};
 ghost use Rattle.prop_table.specs.Styles.{style_view};
+ghost use Rattle.prop_table.specs.Views.{final_view};
 ghost use Rattle.std.specs.Prelude.{◌≡◌, ◌≤◌, ◌*ℤ◌, pos};
 ghost use Rattle.units64.specs.declared.constants.TheConstants as constants;
 
@@ -52,7 +53,14 @@ fn units_of(pixels: u64) -> Units
 pub(crate) fn font_size_of(style: &Style) -> Units
     ensures { result ≡ font_size_in (style_view style.now) }
 {
-    match style.get(Prop::FontSize) {
+    units_of_value(style.get(Prop::FontSize))
+}
+
+/// The units of a length in units; another value has none.
+fn units_of_value(value: &Final) -> Units
+    ensures { result ≡ units_of_final (final_view value.now) }
+{
+    match value {
         Final::Length(Computed::Units(units)) => *units,
         _ => Units::new(0),
     }

@@ -130,20 +130,10 @@ fn is_unbuilt_token(token: &Token) -> bool
     ensures { result ≡ model.is_unbuilt_token token.now }
 {
     match &token.token_type {
-        TokenType::Function(name) => is_unbuilt_function(name),
+        TokenType::Function(name) => is_word(name, "var"),
         TokenType::Dimension(_, name) => is_unbuilt_unit(name),
         _ => false,
     }
-}
-
-fn is_unbuilt_function(name: &Text) -> bool
-    ensures { result ≡ list_any (str_eq_ignore_ascii_case name.now) model.unbuilt_functions }
-{
-    is_word(name, "var")
-        || is_word(name, "calc")
-        || is_word(name, "min")
-        || is_word(name, "max")
-        || is_word(name, "clamp")
 }
 
 fn is_unbuilt_unit(name: &Text) -> bool

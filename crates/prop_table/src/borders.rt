@@ -4,7 +4,7 @@ ghost use Rattle.prop_table.specs.Views.{pairs_view, value_view};
 ghost use Rattle.prop_table.specs.inner.BorderViews.{add_part, complete, parts_view, parts_with, side_values, values_view};
 ghost use Rattle.prop_table.specs.inner.ShorthandViews.{borders_view};
 ghost use Rattle.rules_model.specs.ComponentLists as lists;
-ghost use Rattle.std.specs.Prelude.{◌≡◌, ◌∷◌, ◌++◌, [], IfOk, None, OnOk, false, option_map, unwrap_or};
+ghost use Rattle.std.specs.Prelude.{◌≡◌, ◌∷◌, ◌++◌, [], IfOk, None, OnOk, false, option_and_then, option_map, unwrap_or};
 ghost use Rattle.value_model.specs.Shorthands as shorthands;
 ghost use Rattle.value_model.specs.Words.{words_of};
 ghost use Rattle.value_model.specs.Shorthands.{BorderParts};
@@ -14,9 +14,9 @@ use crate::shorthand::Border;
 use crate::value::Value;
 use css_tokens::Component;
 use port_core::{NoMemory, Seq};
-use query_units::{first_word, is_whitespace};
 use std::alloc::Global;
 use value_model::{Color, Keyword, Prop};
+use value_parts::{first_word, is_whitespace};
 
 /// What one component value is of a border.
 #[derive(Drop)]
@@ -99,10 +99,19 @@ fn with_component(
     if is_whitespace(c) {
         return Ok(found);
     }
-    match (border_part(alloc, c)?, found) {
-        (Some(part), Some(parts)) => Ok(parts.with(part)),
-        _ => Ok(None),
-    }
+    let part = border_part(alloc, c)?;
+    Ok(with_part(part, found))
+}
+
+/// What was found, with one more part in front, if both are right.
+fn with_part(part: Option<Part>, found: Option<Parts>) -> Option<Parts>
+    ensures { option_map parts_view result
+        ≡ option_and_then (λ add. option_and_then add (option_map parts_view found))
+        (option_map add_part part) }
+{
+    let part = part?;
+    let parts = found?;
+    parts.with(part)
 }
 
 /// What one component value is of a border: its width, its style or its colour.

@@ -11,8 +11,8 @@ ghost use Rattle.value_model.specs.declared.color.Color.TheVariants as color;
 use crate::hex_digits::of_two;
 use css_tokens::{Component, TokenType, is_word};
 use port_core::Text;
-use query_units::find_word;
 use value_model::{Color, Rgba};
+use value_parts::find_word;
 
 /// The colour that `c` is, if it is one.
 pub(crate) fn color_of(c: &Component) -> Option<Color>

@@ -1,6 +1,6 @@
 //! What declared values compute to (CSS Cascade 4, section 4.4; the modules of each property).
 ghost use Rattle.prop_table.specs.Views.{final_view, value_view};
-ghost use Rattle.query_units.specs.Views.{computed_view, length_view};
+ghost use Rattle.query_units.specs.Views.{length_view};
 ghost use Rattle.std.specs.Int.{int_max, int_min};
 ghost use Rattle.std.specs.Prelude.{◌≡◌, IfOk, pos};
 ghost use Rattle.value_model.specs.Computing as computing;
@@ -12,7 +12,7 @@ use crate::value::Value;
 use port_core::NoMemory;
 use query_units::{Bases, Computed, Length};
 use std::alloc::Global;
-use units64::{Fixed6, Units, to_units};
+use units64::{Fixed6, Units};
 use value_model::{Keyword, Prop};
 
 /// Returns what `v` computes to for `prop`, where lengths refer to `b`, and the font size of the
@@ -92,7 +92,8 @@ fn weight(keyword: Keyword) -> Final
 }
 
 /// A percentage of a font size is one of the parent's (CSS Fonts 4, section 2.5), and one of a line
-/// height is one of the element's own font size (CSS 2.1, section 10.8.1).
+/// height is one of the element's own font size (CSS 2.1, section 10.8.1); a width of a border has
+/// none. What a calculation gives below 0 is 0 for these.
 fn computed_length(
     alloc: Global,
     prop: Prop,
@@ -103,25 +104,29 @@ fn computed_length(
     ensures { IfOk result (λ f. final_view f
         ≡ computing.computed_length_of prop b.now parent_font (length_view length.now)) }
 {
-    let computed = length.absolute(alloc, b)?;
     match prop {
-        Prop::FontSize => Ok(absolute_length(parent_font, computed)),
-        Prop::LineHeight => Ok(absolute_length(b.em, computed)),
-        _ => Ok(Final::Length(computed)),
+        Prop::FontSize => Ok(absolute_length(length, b, parent_font)),
+        Prop::LineHeight => Ok(absolute_length(length, b, b.em)),
+        Prop::BorderTopWidth
+        | Prop::BorderRightWidth
+        | Prop::BorderBottomWidth
+        | Prop::BorderLeftWidth => Ok(length_of_border(length, b)),
+        _ => Ok(Final::Length(length.absolute(alloc, b)?)),
     }
 }
 
-/// A length where percentages refer to `base`, and not below 0.
-fn absolute_length(base: Units, length: Computed) -> Final
-    ensures { final_view result ≡ computing.absolute_length base (computed_view length) }
+/// A width of a border, which has no percentage.
+fn length_of_border(length: &Length, b: &Bases) -> Final
+    ensures { final_view result ≡ computing.absolute_length b.now (pos 0) (length_view length.now) }
 {
-    Final::Length(Computed::Units(not_below_zero(to_units(length.used(base)))))
+    absolute_length(length, b, Units::new(0))
 }
 
-fn not_below_zero(length: Units) -> Units
-    ensures { result ≡ int_max (pos 0) length }
+/// A length where percentages refer to `base`, and not below 0.
+fn absolute_length(length: &Length, b: &Bases, base: Units) -> Final
+    ensures { final_view result ≡ computing.absolute_length b.now base (length_view length.now) }
 {
-    Units::new(0).max(length)
+    Final::Length(Computed::Units(length.units_from_zero(b, base)))
 }
 
 /// A line height is a number; an opacity is one from 0 to 1 (CSS Color 4, section 4.2).

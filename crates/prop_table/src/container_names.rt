@@ -7,11 +7,10 @@ ghost use Rattle.std.specs.Str.{str_eq_ignore_ascii_case};
 ghost use Rattle.value_model.specs.Forms as forms;
 ghost use Rattle.value_model.specs.Words.{words_of};
 
-use crate::tokens::ident_of;
 use css_tokens::{Component, is_word};
 use port_core::{NoMemory, Seq, Text};
-use query_units::{first_word, is_whitespace, only_word};
 use std::alloc::Global;
+use value_parts::{first_word, ident_of, is_whitespace, only_word};
 
 /// `none`, or at least one name.
 pub(crate) fn container_names_of(

@@ -8,11 +8,10 @@ ghost use Rattle.std.specs.Str.{str_eq_ignore_ascii_case};
 ghost use Rattle.value_model.specs.Forms as forms;
 ghost use Rattle.value_model.specs.Words.{words_of};
 
-use crate::tokens::ident_of;
 use css_tokens::{Component, is_word};
 use port_core::Text;
-use query_units::{find_word, first_word, is_whitespace};
 use value_model::Containment;
+use value_parts::{find_word, first_word, ident_of, is_whitespace};
 
 /// The containment of one keyword by itself, or of at least one word.
 pub(crate) fn containment_of(components: &[Component]) -> Option<Containment>

@@ -12,7 +12,6 @@ use crate::borders::border_values_of;
 use crate::container::container_values_of;
 use crate::longhand::{Longhand, Pairs};
 use crate::prop_order::all_props;
-use crate::reading::wide_keyword_of;
 use crate::shorthand::{Border, Shorthand, shorthand_of_name};
 use crate::sides::{each_of_four, each_of_two};
 use crate::value::Value;
@@ -20,6 +19,7 @@ use css_tokens::{Component, Components};
 use port_core::{NoMemory, Seq, Text};
 use std::alloc::Global;
 use value_model::{Prop, WideKeyword};
+use value_parts::wide_keyword_of;
 
 /// Returns the values that the shorthand of this name, in any case, gives its longhands, where `c`
 /// is a value of it; `None` where it is not, and where no shorthand has this name.

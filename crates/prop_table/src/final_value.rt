@@ -14,7 +14,7 @@ use value_model::{Color, Containment, Keyword};
 pub enum Final {
     /// A keyword.
     Keyword(Keyword),
-    /// A length or a percentage.
+    /// A length in units, or a calculation with percentages.
     Length(Computed),
     /// A number, in millionths.
     Number(Fixed6),
@@ -31,13 +31,13 @@ pub enum Final {
 }
 
 impl Final {
-    /// Returns a copy. One without names takes no memory.
+    /// Returns a copy. One that is no calculation and has no names takes no memory.
     pub fn copy(&self, alloc: Global) -> Result<Final, NoMemory>
         ensures { IfOk result (λ f. final_view f ≡ final_view self.now) }
     {
         match self {
             Final::Keyword(keyword) => Ok(Final::Keyword(*keyword)),
-            Final::Length(length) => Ok(Final::Length(*length)),
+            Final::Length(length) => Ok(Final::Length(length.copy(alloc)?)),
             Final::Number(number) => Ok(Final::Number(*number)),
             Final::Alpha(number) => Ok(Final::Alpha(*number)),
             Final::Integer(integer) => Ok(Final::Integer(*integer)),
@@ -53,7 +53,7 @@ impl Final {
     {
         match (self, other) {
             (Final::Keyword(a), Final::Keyword(b)) => a == b,
-            (Final::Length(a), Final::Length(b)) => a == b,
+            (Final::Length(a), Final::Length(b)) => a.same(b),
             (Final::Number(a), Final::Number(b)) => a == b,
             (Final::Alpha(a), Final::Alpha(b)) => a == b,
             (Final::Integer(a), Final::Integer(b)) => a == b,

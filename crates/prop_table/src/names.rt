@@ -7,8 +7,8 @@ ghost use Rattle.value_model.specs.Grammar as grammar;
 ghost use Rattle.value_model.specs.Properties.{properties, property};
 
 use port_core::Text;
-use query_units::find_word;
 use value_model::Prop;
+use value_parts::find_word;
 
 /// Returns the property of this name, in any case.
 pub fn property_of_name(name: &Text) -> Option<Prop>

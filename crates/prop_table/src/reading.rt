@@ -13,14 +13,13 @@ use crate::container_names::container_names_of;
 use crate::containment::containment_of;
 use crate::form::Form;
 use crate::forms::forms;
-use crate::keywords::wide_keyword_of_word;
 use crate::value::Value;
 use crate::value_of_word::value_of_word;
 use css_tokens::{Component, Components};
 use port_core::NoMemory;
-use query_units::only_word;
 use std::alloc::Global;
-use value_model::{Prop, WideKeyword};
+use value_model::Prop;
+use value_parts::{only_word, wide_keyword_of};
 
 /// Returns the value of `prop` that `c` is, if it is one.
 pub fn read_value(alloc: Global, prop: Prop, c: &Components) -> Result<Option<Value>, NoMemory>
@@ -31,13 +30,6 @@ pub fn read_value(alloc: Global, prop: Prop, c: &Components) -> Result<Option<Va
         Some(wide) => Ok(Some(Value::Wide(wide))),
         None => own_value_of(alloc, prop, c.as_slice()),
     }
-}
-
-/// The CSS-wide keyword that stands alone, in any case.
-pub(crate) fn wide_keyword_of(components: &[Component]) -> Option<WideKeyword>
-    ensures { result ≡ grammar.wide_keyword_of (words_of (components_view components.now)) }
-{
-    wide_keyword_of_word(only_word(components)?)
 }
 
 /// The value of `prop` that component values are, other than a CSS-wide keyword.
@@ -83,7 +75,7 @@ fn value_of_form(
     match form {
         Form::Containment => Ok(containment_value(components)),
         Form::ContainerNames => names_value(alloc, components),
-        _ => Ok(only_value(form, components)),
+        _ => only_value(alloc, form, components),
     }
 }
 
@@ -105,9 +97,16 @@ fn names_value(alloc: Global, components: &[Component]) -> Result<Option<Value>,
 }
 
 /// The value of a form that is one component value.
-fn only_value(form: Form, components: &[Component]) -> Option<Value>
-    ensures { option_map value_view result
-        ≡ alone (model.value_of_one (form_view form)) (words_of (components_view components.now)) }
+fn only_value(
+    alloc: Global,
+    form: Form,
+    components: &[Component],
+) -> Result<Option<Value>, NoMemory>
+    ensures { IfOk result (λ v. option_map value_view v
+        ≡ alone (model.value_of_one (form_view form)) (words_of (components_view components.now))) }
 {
-    value_of_word(form, only_word(components)?)
+    match only_word(components) {
+        Some(word) => value_of_word(alloc, form, word),
+        None => Ok(None),
+    }
 }

@@ -8,8 +8,8 @@ ghost use Rattle.std.specs.Str.{str_eq_ignore_ascii_case};
 ghost use Rattle.value_model.specs.Shorthands as shorthands;
 
 use port_core::Text;
-use query_units::find_word;
 use value_model::Prop;
+use value_parts::find_word;
 
 /// The three properties of the border of one side.
 #[derive(Clone, Copy, Debug, PartialEq, Eq)]

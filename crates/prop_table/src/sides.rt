@@ -10,9 +10,9 @@ use crate::longhand::{Pairs, read_longhand, with_longhand};
 use crate::shorthand::Sides;
 use css_tokens::Component;
 use port_core::{NoMemory, Seq};
-use query_units::first_word;
 use std::alloc::Global;
 use value_model::Prop;
+use value_parts::first_word;
 
 /// The component values of the two ends of an axis.
 #[derive(Clone, Copy, Debug)]

@@ -28,6 +28,11 @@ impl Model for Style {
 
     ghost Value = { List final };
 
+    ghost use Rattle.query_units.specs.contracts.computed.Computed as computed;
+    ghost use Rattle.std.specs.Coded.{codes};
+
+    ghost coded = { Prim.hlevel (codes, computed.the_row.coded) };
+
     ghost view = { λ s. s.boxes.value ++ (s.borders.value ++ s.rest.value) };
 
     ghost invariant = { λ s. AreParts s.boxes.value s.borders.value s.rest.value };

@@ -9,25 +9,6 @@ ghost use Rattle.value_model.specs.Shorthands as shorthands;
 use css_tokens::{Component, Number, TokenType};
 use port_core::Text;
 
-/// The name of the identifier that `c` is, if it is one.
-pub(crate) fn ident_of(c: &Component) -> Option<&Text>
-    ensures { option_copied result ≡ lists.ident_of (component_view c.now) }
-{
-    match c {
-        Component::One(token) => ident_of_type(&token.token_type),
-        _ => None,
-    }
-}
-
-fn ident_of_type(token_type: &TokenType) -> Option<&Text>
-    ensures { option_copied result ≡ lists.ident_of_type token_type.now }
-{
-    match token_type {
-        TokenType::Ident(name) => Some(name),
-        _ => None,
-    }
-}
-
 /// The number that `c` is, if it is one.
 pub(crate) fn number_of(c: &Component) -> Option<Number>
     ensures { result ≡ forms.number_of (component_view c.now) }

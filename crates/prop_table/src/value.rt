@@ -16,7 +16,7 @@ pub enum Value {
     Wide(WideKeyword),
     /// A keyword.
     Keyword(Keyword),
-    /// A length or a percentage.
+    /// A length or a percentage, literal or calculated.
     Length(Length),
     /// A number, in millionths.
     Number(Fixed6),
@@ -31,14 +31,14 @@ pub enum Value {
 }
 
 impl Value {
-    /// Returns a copy. One without names takes no memory.
+    /// Returns a copy. One that is no calculation and has no names takes no memory.
     pub fn copy(&self, alloc: Global) -> Result<Value, NoMemory>
         ensures { IfOk result (λ v. value_view v ≡ value_view self.now) }
     {
         match self {
             Value::Wide(wide) => Ok(Value::Wide(*wide)),
             Value::Keyword(keyword) => Ok(Value::Keyword(*keyword)),
-            Value::Length(length) => Ok(Value::Length(*length)),
+            Value::Length(length) => Ok(Value::Length(length.copy(alloc)?)),
             Value::Number(number) => Ok(Value::Number(*number)),
             Value::Integer(integer) => Ok(Value::Integer(*integer)),
             Value::Color(color) => Ok(Value::Color(*color)),

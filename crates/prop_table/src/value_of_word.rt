@@ -3,7 +3,7 @@ ghost use Rattle.css_tokens.specs.Nested.{component_view};
 ghost use Rattle.prop_table.specs.Views.{value_view};
 ghost use Rattle.prop_table.specs.inner.FormViews.{form_view};
 ghost use Rattle.query_units.specs.Views.{length_view};
-ghost use Rattle.std.specs.Prelude.{◌≡◌, int_div, option_map, pos};
+ghost use Rattle.std.specs.Prelude.{◌≡◌, IfOk, int_div, option_map, pos};
 ghost use Rattle.value_model.specs.Forms as model;
 ghost use Rattle.value_model.specs.Values as values;
 
@@ -13,26 +13,32 @@ use crate::keywords::keyword_among;
 use crate::tokens::number_of;
 use crate::value::Value;
 use css_tokens::Component;
-use query_units::{Length, length_of, length_or_percentage_of};
+use port_core::NoMemory;
+use query_units::{Length, any_length_of, length_from_zero_of};
+use std::alloc::Global;
 use units64::Fixed6;
 use value_model::Keyword;
 
 /// The value of `form` that `c` is, where the form is one component value.
-pub(crate) fn value_of_word(form: Form, c: &Component) -> Option<Value>
-    ensures { option_map value_view result
-        ≡ model.value_of_one (form_view form) (component_view c.now) }
+pub(crate) fn value_of_word(
+    alloc: Global,
+    form: Form,
+    c: &Component,
+) -> Result<Option<Value>, NoMemory>
+    ensures { IfOk result (λ v. option_map value_view v
+        ≡ model.value_of_one (form_view form) (component_view c.now)) }
 {
     match form {
-        Form::OneOf(keywords) => keyword_value(keywords, c),
-        Form::Length => length_value(not_negative(length_of(c))),
-        Form::LengthOrPercentage => length_value(not_negative(length_or_percentage_of(c))),
-        Form::AnyLengthOrPercentage => length_value(length_or_percentage_of(c)),
-        Form::Number => number_value(c),
-        Form::AnyNumber => any_number_value(c),
-        Form::IntegerBetween(least, greatest) => integer_value(least, greatest, c),
-        Form::AnyInteger => any_integer_value(c),
-        Form::Color => color_value(c),
-        Form::Containment | Form::ContainerNames => None,
+        Form::OneOf(keywords) => Ok(keyword_value(keywords, c)),
+        Form::Length => Ok(length_value(length_from_zero_of(alloc, c, false)?)),
+        Form::LengthOrPercentage => Ok(length_value(length_from_zero_of(alloc, c, true)?)),
+        Form::AnyLengthOrPercentage => Ok(length_value(any_length_of(alloc, c, true)?)),
+        Form::Number => Ok(number_value(c)),
+        Form::AnyNumber => Ok(any_number_value(c)),
+        Form::IntegerBetween(least, greatest) => Ok(integer_value(least, greatest, c)),
+        Form::AnyInteger => Ok(any_integer_value(c)),
+        Form::Color => Ok(color_value(c)),
+        Form::Containment | Form::ContainerNames => Ok(None),
     }
 }
 
@@ -48,18 +54,6 @@ fn length_value(length: Option<Length>) -> Option<Value>
         ≡ option_map (λ l. values.length_value l) (option_map length_view length) }
 {
     Some(Value::Length(length?))
-}
-
-/// A length, if it is not negative.
-fn not_negative(length: Option<Length>) -> Option<Length>
-    ensures { option_map length_view result ≡ model.not_negative (option_map length_view length) }
-{
-    let length = length?;
-    if length.is_negative() {
-        None
-    } else {
-        Some(length)
-    }
 }
 
 fn number_value(c: &Component) -> Option<Value>

@@ -1,7 +1,7 @@
 -- The text of a value has no newline.
 use Rattle.std.proofs.Common.{◌≡◌, ◌∙◌, refl, ap, sym, ℕ, zero, suc, ◌≤◌, ◌/◌, ◌%◌, ◌==◌, ◌≢◌, inl, inr, List, [], ◌∷◌, ◌++◌, append-nil, map, get_or, Bool, true, false, not, arith, codes, nat_lt}
 use Rattle.std.specs.Prelude.{ℤ, pos, negsuc, encode_utf8, flat_map, ⊤}
-use Rattle.std.specs.List.{list_all}
+use Rattle.std.specs.List.{list_all, join_with_byte}
 use Rattle.std.specs.Fmt.{decimal, digits, digits_onto, signed_decimal}
 use Rattle.std.proofs.lemmas.Bool.{cases_Bool, ltb-false, ne_eqb, and_from}
 use Rattle.std.proofs.lemmas.List.{get_or_default}
@@ -14,8 +14,9 @@ use Rattle.value_model.specs.declared.color.Color.TheVariants.{CurrentColor, Rgb
 use Rattle.value_model.specs.declared.containment.Containment.{Containment}
 use Rattle.value_model.specs.declared.keyword.Keyword.{Keyword}
 use Rattle.value_model.specs.declared.keyword.Keyword.TheVariants.{Auto, None as NoneKeyword, Block, Inline, InlineBlock, FlowRoot, Thin, Medium, Thick, Hidden, Dotted, Dashed, Solid, Double, Groove, Ridge, Inset, Outset, ContentBox, BorderBox, Normal, Left, Right, Center, Start, End, Nowrap, Visible, Scroll, InlineSize, Size, Collapse, Italic, Oblique, Bold, Underline, Overline, LineThrough}
+use Rattle.css_model.specs.Classes.{comma}
+use Rattle.value_model.specs.Calculations.{in_units, in_pixels, in_percent, ComputedLeaf, ComputedLength, leaf, sum, scaled, divided, smallest, largest, Calculations, no_calculations, calculation, call_text, length_text, length_texts}
 use Rattle.value_model.specs.Keywords.{keyword_text}
-use Rattle.value_model.specs.Lengths.{in_units, in_percent}
 use Rattle.value_model.specs.Values.{Final, keyword, length, number, alpha, integer, color, containment, names}
 use Rattle.reply_model.specs.Spelling.{field, hex_digit, in_quotes, quoted}
 use Rattle.reply_model.specs.ValueTexts.{final_text, component_text, color_text, words_text, word_if, containment_words}
@@ -106,6 +107,45 @@ containment-lines c =
     (more-lines c.layout (codes "layout") _ refl
     (more-lines c.style (codes "style") _ refl (if-lines c.paint (codes "paint") refl))))
 
+-- ---- lengths
+
+joined-line : (ws : List (List ℕ)) → AreLines ws → no_newline (join_with_byte comma ws) ≡ true
+joined-line [] h = refl
+joined-line (w ∷ []) h = h.0
+joined-line (w ∷ v ∷ ws) h =
+    both w (comma ∷ join_with_byte comma (v ∷ ws)) h.0 (joined-line (v ∷ ws) h.1)
+
+call-line : (name : List ℕ) (parts : List (List ℕ)) → no_newline name ≡ true → AreLines parts
+    → no_newline (call_text name parts) ≡ true
+call-line name parts h k =
+    both name (40 ∷ (join_with_byte comma parts ++ (41 ∷ []))) h
+    (both (join_with_byte comma parts) (41 ∷ []) (joined-line parts k) refl)
+
+mutual
+  length-line : (l : ComputedLength) → no_newline (length_text l) ≡ true
+  length-line (leaf (in_units n)) = signed-line n
+  length-line (leaf (in_pixels n)) = signed-line n
+  length-line (leaf (in_percent n)) = signed-line n
+  length-line (sum a b) =
+      call-line (codes "add") (length_text a ∷ length_text b ∷ []) refl
+      (length-line a, (length-line b, tt))
+  length-line (scaled a factor) =
+      call-line (codes "scale") (length_text a ∷ signed_decimal factor ∷ []) refl
+      (length-line a, (signed-line factor, tt))
+  length-line (divided a divisor) =
+      call-line (codes "over") (length_text a ∷ signed_decimal divisor ∷ []) refl
+      (length-line a, (signed-line divisor, tt))
+  length-line (smallest a others) =
+      call-line (codes "min") (length_text a ∷ length_texts others) refl
+      (length-line a, length-lines others)
+  length-line (largest a others) =
+      call-line (codes "max") (length_text a ∷ length_texts others) refl
+      (length-line a, length-lines others)
+
+  length-lines : (others : Calculations ComputedLeaf) → AreLines (length_texts others)
+  length-lines no_calculations = tt
+  length-lines (calculation a others) = (length-line a, length-lines others)
+
 -- ---- names
 
 encoded-line : (c : ℕ) → 32 ≤ c → no_newline (encode_utf8 c) ≡ true
@@ -185,8 +225,7 @@ keyword-line LineThrough = refl
 
 pub text-on_one_line : (v : Final) → no_newline (final_text v) ≡ true
 text-on_one_line (keyword k) = keyword-line k
-text-on_one_line (length (in_units n)) = signed-line n
-text-on_one_line (length (in_percent n)) = signed-line n
+text-on_one_line (length l) = length-line l
 text-on_one_line (number n) = signed-line n
 text-on_one_line (alpha n) = signed-line n
 text-on_one_line (integer n) = signed-line n

@@ -1,18 +1,22 @@
 -- A computed value is read back from its text.
-use Rattle.std.proofs.Common.{◌≡◌, ◌∙◌, refl, ap, ℕ, ◌<◌, ◌≤◌, ◌^◌, ◌+◌, ◌==◌, ◌&&◌, List, [], ◌∷◌, get_or, drop, take, length as list_length, Bool, true, false, if◌then◌else◌, arith, codes, nat_lt}
-use Rattle.std.specs.Prelude.{ℤ, pos, negsuc, unsigned_abs, unwrap_or, bytes_eq, find}
+use Rattle.std.proofs.Common.{◌≡◌, ◌∙◌, refl, ap, ℕ, ◌<◌, ◌≤◌, ◌^◌, ◌+◌, ◌==◌, ◌&&◌, ◌||◌, List, [], ◌∷◌, get_or, drop, take, length as list_length, Bool, true, false, if◌then◌else◌, codes, nat_lt}
+use Rattle.std.specs.Prelude.{ℤ, unsigned_abs, unwrap_or, bytes_eq, find}
 use Rattle.std.specs.Fmt.{signed_decimal}
-use Rattle.std.proofs.lemmas.Bool.{le-ltb, lt-ltb}
+use Rattle.std.specs.List.{list_any}
+use Rattle.std.proofs.lemmas.Bool.{le-ltb, lt-ltb, false≢true}
 use Rattle.value_model.specs.declared.color.Color.TheVariants.{CurrentColor, Rgba as AnRgba}
 use Rattle.value_model.specs.declared.color.Rgba.{Rgba}
 use Rattle.value_model.specs.declared.containment.Containment.{Containment}
 use Rattle.value_model.specs.declared.keyword.Keyword.{Keyword}
 use Rattle.value_model.specs.declared.keyword.Keyword.TheVariants.{Auto, None as NoneKeyword, Block, Inline, InlineBlock, FlowRoot, Thin, Medium, Thick, Hidden, Dotted, Dashed, Solid, Double, Groove, Ridge, Inset, Outset, ContentBox, BorderBox, Normal, Left, Right, Center, Start, End, Nowrap, Visible, Scroll, InlineSize, Size, Collapse, Italic, Oblique, Bold, Underline, Overline, LineThrough}
+use Rattle.value_model.specs.Calculations.{ComputedLength, in_units, in_pixels, in_percent, leaf, sum, scaled, divided, smallest, largest}
 use Rattle.value_model.specs.Forms.{contained}
 use Rattle.value_model.specs.Keywords.{keyword_text}
-use Rattle.value_model.specs.Lengths.{in_percent}
 use Rattle.value_model.specs.Values.{Final, keyword, length, number, color, containment}
 use Rattle.reply_model.specs.ValueTexts.{final_text, words_text, containment_words}
+use Rattle.calculations_laws.specs.ComputedLengths.{is_mixed}
+use Rattle.calculations_laws.specs.LengthTexts.{HasShortLeaves}
+use Rattle.calculations_laws.proofs.ReadLengths.{read_length, mixed-read}
 use Rattle.calculations_laws.proofs.Numerals.{signed_value, value-signed, numeral-first}
 use Rattle.reply_laws.proofs.Quoted.{hex_value, value-hexes}
 
@@ -21,23 +25,27 @@ use Rattle.reply_laws.proofs.Quoted.{hex_value, value-hexes}
 pub data Lead : Type 0 where
   hash : Lead
   numeral : Lead
-  after_pct : Lead
   after_num : Lead
   current : Lead
+  calculated : Lead
   letters : Lead
 
--- by its first two code points
-abbrev pub lead : ℕ → ℕ → Lead
-lead c d =
+-- by its first two code points, and whether a round bracket stands in it: `scroll` and `scale(` begin with
+-- the same two
+abbrev pub lead : ℕ → ℕ → Bool → Lead
+lead c d bracket =
     if nat_lt c 40 then hash
     else if nat_lt c 58 then numeral
-    else if c == 112 then after_pct
     else if d == 117 && c == 110 then after_num
     else if d == 117 && c == 99 then current
+    else if c == 112 || bracket then calculated
     else letters
 
-lead-numeral : (c d : ℕ) → 40 ≤ c → c < 58 → lead c d ≡ numeral
-lead-numeral c d low high =
+abbrev pub has_bracket : List ℕ → Bool
+has_bracket text = list_any (λ c. c == 40) text
+
+lead-numeral : (c d : ℕ) (bracket : Bool) → 40 ≤ c → c < 58 → lead c d bracket ≡ numeral
+lead-numeral c d bracket low high =
     let above : nat_lt c 40 ≡ false = le-ltb c 40 low in
     let below : nat_lt c 58 ≡ true = lt-ltb c 58 high in
     rw (above, below) refl
@@ -70,13 +78,13 @@ rgba_of text = record {
 abbrev pub read_led : (ℤ → Final) → Lead → List ℕ → Final
 read_led f hash text = color (AnRgba (rgba_of text))
 read_led f numeral text = f (signed_value text)
-read_led f after_pct text = length (in_percent (signed_value (drop 4 text)))
 read_led f after_num text = number (signed_value (drop 4 text))
 read_led f current text = color CurrentColor
+read_led f calculated text = length (read_length text)
 read_led f letters text = keyword (keyword_of text)
 
 abbrev pub read_value : (ℤ → Final) → List ℕ → Final
-read_value f text = read_led f (lead (get_or text 0 0) (get_or text 1 0)) text
+read_value f text = read_led f (lead (get_or text 0 0) (get_or text 1 0) (has_bracket text)) text
 
 pub read-keyword : (f : ℤ → Final) (k : Keyword) → read_value f (keyword_text k) ≡ keyword k
 read-keyword f Auto = refl
@@ -123,12 +131,20 @@ pub read-numeral : (f : ℤ → Final) (z : ℤ) → unsigned_abs z < 10 ^ 64
 read-numeral f z h =
     let first = numeral-first z h in
     let text : List ℕ = signed_decimal z in
-    ap (λ l. read_led f l text) (lead-numeral (get_or text 0 0) (get_or text 1 0) first.0 first.1)
+    ap (λ l. read_led f l text) (lead-numeral (get_or text 0 0) (get_or text 1 0) (has_bracket text) first.0 first.1)
     ∙ ap f (value-signed z h)
 
-pub read-percent : (f : ℤ → Final) (z : ℤ) → unsigned_abs z < 10 ^ 64
-    → read_value f (final_text (length (in_percent z))) ≡ length (in_percent z)
-read-percent f z h = ap (λ n. length (in_percent n)) (value-signed z h)
+-- a calculation, or a percentage by itself
+pub read-calculated : (f : ℤ → Final) (l : ComputedLength) → is_mixed l ≡ true → HasShortLeaves l
+    → read_value f (final_text (length l)) ≡ length l
+read-calculated f (leaf (in_units n)) m h = absurd (false≢true m)
+read-calculated f (leaf (in_pixels n)) m h = absurd (false≢true m)
+read-calculated f (leaf (in_percent n)) m h = ap (λ l. length l) (mixed-read (leaf (in_percent n)) m h)
+read-calculated f (sum a b) m h = ap (λ l. length l) (mixed-read (sum a b) m h)
+read-calculated f (scaled a factor) m h = ap (λ l. length l) (mixed-read (scaled a factor) m h)
+read-calculated f (divided a divisor) m h = ap (λ l. length l) (mixed-read (divided a divisor) m h)
+read-calculated f (smallest a others) m h = ap (λ l. length l) (mixed-read (smallest a others) m h)
+read-calculated f (largest a others) m h = ap (λ l. length l) (mixed-read (largest a others) m h)
 
 pub read-number : (f : ℤ → Final) (z : ℤ) → unsigned_abs z < 10 ^ 64
     → read_value f (final_text (number z)) ≡ number z

@@ -1,6 +1,6 @@
 -- Computed values of one property have different texts.
 use Rattle.std.proofs.Common.{◌≡◌, ◌∙◌, ap, sym, ℕ, ◌<◌, ◌^◌, ◌&&◌, ◌||◌, inl, inr, List, [], ◌∷◌, Bool, true, arith, nat_le}
-use Rattle.std.specs.Prelude.{ℤ, pos, negsuc, neg_ℤ, int_le, unsigned_abs}
+use Rattle.std.specs.Prelude.{ℤ, pos, neg_ℤ, int_le, unsigned_abs}
 use Rattle.std.proofs.lemmas.Bool.{and_parts, leb-true, or_cases, false≢true}
 use Rattle.units64.specs.declared.constants.TheConstants.{MAX_UNITS}
 use Rattle.value_model.specs.declared.color.Color.TheVariants.{CurrentColor, Rgba as AnRgba}
@@ -10,15 +10,16 @@ use Rattle.value_model.specs.declared.prop.Prop.{Prop}
 use Rattle.value_model.specs.declared.prop.Prop.TheVariants.{Display, Width, Height, MinWidth, MinHeight, MaxWidth, MaxHeight, MarginTop, MarginRight, MarginBottom, MarginLeft, PaddingTop, PaddingRight, PaddingBottom, PaddingLeft, BorderTopWidth, BorderRightWidth, BorderBottomWidth, BorderLeftWidth, BorderTopStyle, BorderRightStyle, BorderBottomStyle, BorderLeftStyle, BorderTopColor, BorderRightColor, BorderBottomColor, BorderLeftColor, BoxSizing, FontSize, LineHeight, Color, BackgroundColor, TextAlign, WhiteSpace, Overflow, Contain, ContainerType, ContainerName, Visibility, Opacity, FontStyle, FontWeight, ZIndex, TextDecorationLine, PointerEvents}
 use Rattle.value_model.specs.declared.keyword.Keyword.TheVariants.{Auto, None as NoneKeyword, Block, Inline, InlineBlock, FlowRoot, Hidden, ContentBox, BorderBox, Normal, Left, Right, Center, Nowrap, Visible, Scroll, InlineSize, Size, Collapse, Italic, Oblique, Underline, Overline, LineThrough}
 use Rattle.value_model.specs.Properties.{line_styles}
-use Rattle.value_model.specs.Lengths.{in_units, in_percent}
+use Rattle.value_model.specs.Calculations.{ComputedLength, leaf, in_units}
 use Rattle.value_model.specs.Forms.{is_between}
 use Rattle.value_model.specs.Values.{Final, keyword, length, number, alpha, integer, color, containment, names}
-use Rattle.value_laws.specs.ComputedForms.{is_computed, is_one_of, is_units_from, is_absolute_length, is_length, is_any_length, is_number, is_alpha, is_integer_between, is_any_integer, is_rgba, is_color, is_any_color, is_containment, are_container_names}
+use Rattle.value_laws.specs.ComputedForms.{is_computed, is_one_of, is_absolute_length, is_length, is_number, is_alpha, is_integer_between, is_any_integer, is_rgba, is_color, is_any_color, is_containment, are_container_names}
 use Rattle.reply_model.specs.ValueTexts.{final_text}
 use Rattle.reply_laws.specs.ValueTexts.{HasShortNumbers, TellsValuesApart}
-use Rattle.calculations_laws.proofs.Numerals.{short-between}
+use Rattle.calculations_laws.specs.ComputedLengths.{is_units_from, are_units, is_mixed}
+use Rattle.calculations_laws.proofs.Numerals.{short-between, short-units}
 use Rattle.reply_laws.proofs.Quoted.{same-names}
-use Rattle.reply_laws.proofs.ReadValues.{read_value, read-keyword, read-numeral, read-percent, read-number, read-current, read-rgba, containment_of, read-containment}
+use Rattle.reply_laws.proofs.ReadValues.{read_value, read-keyword, read-numeral, read-calculated, read-number, read-current, read-rgba, containment_of, read-containment}
 
 -- ---- values that pass a test are read back
 
@@ -37,7 +38,7 @@ either read first second f g v h s = elim (or_cases (first v) (second v) h) [
 
 -- what a numeral alone stands for
 abbrev as_length : ℤ → Final
-as_length n = length (in_units n)
+as_length n = length (leaf (in_units n))
 
 abbrev units : List ℕ → Final
 units = read_value as_length
@@ -64,10 +65,8 @@ or-words f ks test r = either (read_value f) (is_one_of ks) test (words f ks) r
 -- ---- numbers
 
 units-from : (least n : ℤ) → unsigned_abs least < 10 ^ 64 → is_units_from least n ≡ true
-    → units (final_text (length (in_units n))) ≡ length (in_units n)
-units-from least n short h =
-    let both = and_parts (int_le least n) (int_le n MAX_UNITS) h in
-    read-numeral as_length n (short-between n least MAX_UNITS short (omega arith) both.0 both.1)
+    → units (final_text (as_length n)) ≡ as_length n
+units-from least n short h = read-numeral as_length n (short-units least n short h)
 
 between : (least greatest : ℕ) (n : ℤ) → least < 10 ^ 64 → greatest < 10 ^ 64
     → is_between least greatest n ≡ true → unsigned_abs n < 10 ^ 64
@@ -76,18 +75,19 @@ between least greatest n l g h =
     short-between n (pos least) (pos greatest) l g both.0 both.1
 
 absolute-lengths : Reads units is_absolute_length
-absolute-lengths (length (in_units n)) h s = units-from (pos 0) n (omega arith) h
+absolute-lengths (length (leaf (in_units n))) h s = units-from (pos 0) n (omega arith) h
 absolute-lengths v h s = absurd (false≢true h)
 
-lengths : Reads units is_length
-lengths (length (in_percent n)) h s = read-percent as_length n s
-lengths (length (in_units n)) h s = absolute-lengths (length (in_units n)) h s
-lengths v h s = absurd (false≢true h)
+units-alone : (l : ComputedLength) → are_units l ≡ true → units (final_text (length l)) ≡ length l
+units-alone (leaf (in_units n)) h = units-from (neg_ℤ MAX_UNITS) n (omega arith) h
+units-alone l h = absurd (false≢true h)
 
-any-lengths : Reads units is_any_length
-any-lengths (length (in_percent n)) h s = read-percent as_length n s
-any-lengths (length (in_units n)) h s = units-from (neg_ℤ MAX_UNITS) n (omega arith) h
-any-lengths v h s = absurd (false≢true h)
+lengths : Reads units is_length
+lengths (length l) h s = elim (or_cases (are_units l) (is_mixed l) h) [
+  | inl u ↦ units-alone l u
+  | inr m ↦ read-calculated as_length l m s
+]
+lengths v h s = absurd (false≢true h)
 
 numbers : Reads units is_number
 numbers (number n) h s = read-number as_length n s
@@ -154,13 +154,13 @@ values-apart MinHeight = apart units MinHeight lengths
 values-apart MaxWidth = apart units MaxWidth (or-words as_length (NoneKeyword ∷ []) is_length lengths)
 values-apart MaxHeight = apart units MaxHeight (or-words as_length (NoneKeyword ∷ []) is_length lengths)
 values-apart MarginTop = apart units MarginTop
-    (or-words as_length (Auto ∷ []) is_any_length any-lengths)
+    (or-words as_length (Auto ∷ []) is_length lengths)
 values-apart MarginRight = apart units MarginRight
-    (or-words as_length (Auto ∷ []) is_any_length any-lengths)
+    (or-words as_length (Auto ∷ []) is_length lengths)
 values-apart MarginBottom = apart units MarginBottom
-    (or-words as_length (Auto ∷ []) is_any_length any-lengths)
+    (or-words as_length (Auto ∷ []) is_length lengths)
 values-apart MarginLeft = apart units MarginLeft
-    (or-words as_length (Auto ∷ []) is_any_length any-lengths)
+    (or-words as_length (Auto ∷ []) is_length lengths)
 values-apart PaddingTop = apart units PaddingTop lengths
 values-apart PaddingRight = apart units PaddingRight lengths
 values-apart PaddingBottom = apart units PaddingBottom lengths

@@ -4,16 +4,15 @@ use Rattle.cascade_model.specs.Defaulting.{Style, value_in}
 use Rattle.reply_model.specs.StyleText.{style_lines}
 use Rattle.reply_model.specs.ValueTexts.{final_text}
 use Rattle.value_model.specs.declared.prop.Prop.{Prop}
-use Rattle.value_model.specs.Lengths.{in_percent}
 use Rattle.value_model.specs.Properties.{properties, property}
 use Rattle.value_model.specs.Values.{Final, number, integer, length}
 use Rattle.value_laws.specs.ComputedForms.{is_computed}
-use Rattle.calculations_laws.specs.LengthTexts.{IsShort}
+use Rattle.calculations_laws.specs.LengthTexts.{IsShort, HasShortLeaves}
 
 -- the numbers that `is_computed` does not bound are short; those that are read of CSS are at most
 -- `MAX_MILLIONTHS`, which has 16 digits
 abbrev pub HasShortNumbers : Final → Type 0
-HasShortNumbers (length (in_percent n)) = IsShort n
+HasShortNumbers (length l) = HasShortLeaves l
 HasShortNumbers (number n) = IsShort n
 HasShortNumbers (integer n) = IsShort n
 HasShortNumbers v = ⊤

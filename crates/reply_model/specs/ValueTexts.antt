@@ -6,15 +6,10 @@ use Rattle.value_model.specs.declared.color.Color.{Color}
 use Rattle.value_model.specs.declared.color.Color.TheVariants.{CurrentColor, Rgba as AnRgba}
 use Rattle.value_model.specs.declared.containment.Containment.{Containment}
 use Rattle.value_model.specs.Keywords.{keyword_text}
-use Rattle.value_model.specs.Lengths.{ComputedLength, in_units, in_percent}
+use Rattle.value_model.specs.Calculations.{length_text}
 use Rattle.value_model.specs.Values.{Final, keyword, length, number, alpha, integer, color, containment, names}
 
--- ---- lengths and colours
-
--- a length in units, or millionths of a percent
-abbrev pub length_text : ComputedLength → List ℕ
-length_text (in_units n) = signed_decimal n
-length_text (in_percent n) = codes "pct:" ++ signed_decimal n
+-- ---- colours
 
 -- the two digits of a component, which is from 0 to 255
 abbrev pub component_text : ℕ → List ℕ

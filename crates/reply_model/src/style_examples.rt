@@ -26,7 +26,7 @@ ghost use Rattle.value_model.specs.declared.color.Color.TheVariants.{CurrentColo
 ghost use Rattle.value_model.specs.declared.keyword.Keyword.TheVariants.{InlineBlock, None as NoneKeyword};
 ghost use Rattle.value_model.specs.declared.prop.Prop.TheVariants.{BorderTopColor, LineHeight, Width};
 ghost use Rattle.value_model.specs.Colors.{rgba};
-ghost use Rattle.value_model.specs.Lengths.{in_percent, in_units};
+ghost use Rattle.value_model.specs.Calculations.{in_percent, in_units, leaf};
 ghost use Rattle.value_model.specs.Properties.{properties, property};
 ghost use Rattle.value_model.specs.Values.{keyword, length, number, alpha, integer, color, containment, names};
 
@@ -35,9 +35,9 @@ ghost use Rattle.value_model.specs.Values.{keyword, length, number, alpha, integ
 pub fn examples_of_value_texts()
     ensures keyword { final_text (keyword InlineBlock) ≡ codes "inline-block" }
     ensures none { final_text (keyword NoneKeyword) ≡ codes "none" }
-    ensures units { final_text (length (in_units (pos 64))) ≡ signed_decimal (pos 64) }
-    ensures negative_units { final_text (length (in_units (negsuc 63))) ≡ signed_decimal (negsuc 63) }
-    ensures percent { final_text (length (in_percent (pos 10000000)))
+    ensures units { final_text (length (leaf (in_units (pos 64)))) ≡ signed_decimal (pos 64) }
+    ensures negative_units { final_text (length (leaf (in_units (negsuc 63)))) ≡ signed_decimal (negsuc 63) }
+    ensures percent { final_text (length (leaf (in_percent (pos 10000000))))
         ≡ codes "pct:" ++ signed_decimal (pos 10000000) }
     ensures number { final_text (number (pos 1250000)) ≡ codes "num:" ++ signed_decimal (pos 1250000) }
     ensures alpha { final_text (alpha (pos 1000000)) ≡ signed_decimal (pos 1000000) }
@@ -74,7 +74,7 @@ pub fn examples_of_value_texts()
 /// A line has the name of a property and its value; there is one for each property, in their order.
 #[tactic(auto, unfolding(crate::specs::StyleText::value_line, crate::specs::StyleText::style_lines))]
 pub fn examples_of_style_texts()
-    ensures width { value_line Width (length (in_percent (pos 1)))
+    ensures width { value_line Width (length (leaf (in_percent (pos 1))))
         ≡ codes "width: pct:" ++ (signed_decimal (pos 1) ++ codes "\n") }
     ensures side { value_line BorderTopColor (color CurrentColor) ≡ codes "border-top-color: currentcolor\n" }
     ensures number { value_line LineHeight (number (pos 2))

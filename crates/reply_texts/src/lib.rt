@@ -2,6 +2,7 @@
 #![tactic(auto)]
 
 mod fields;
+mod lengths;
 mod quotes;
 mod styles;
 mod values;

@@ -1,15 +1,15 @@
 //! Computed values.
 ghost use Rattle.prop_table.specs.Views.{final_view};
-ghost use Rattle.query_units.specs.Views.{computed_view};
-ghost use Rattle.reply_model.specs.ValueTexts.{color_text, component_text, final_text, length_text};
+ghost use Rattle.reply_model.specs.ValueTexts.{color_text, component_text, final_text};
 ghost use Rattle.std.specs.Prelude.{◌≡◌, ◌++◌, OnOk, string_bytes};
 ghost use Rattle.value_model.specs.declared.color.Color.TheVariants.{Rgba as an_rgba};
 
 use crate::fields::{push_signed, push_tagged, push_text};
+use crate::lengths::push_length;
 use crate::quotes::push_hex_digit;
 use crate::words::{push_containment, push_names};
 use port_core::NoMemory;
-use prop_table::{Color, Computed, Final, Rgba, keyword_text};
+use prop_table::{Color, Final, Rgba, keyword_text};
 
 /// Appends a computed value.
 pub(crate) fn push_final(reply: &mut String, value: &Final) -> Result<(), NoMemory>
@@ -18,24 +18,13 @@ pub(crate) fn push_final(reply: &mut String, value: &Final) -> Result<(), NoMemo
 {
     match value {
         Final::Keyword(keyword) => push_text(reply, keyword_text(*keyword)),
-        Final::Length(length) => push_length(reply, *length),
+        Final::Length(length) => push_length(reply, length),
         Final::Number(number) => push_tagged(reply, "num:", number.get()),
         Final::Alpha(number) => push_signed(reply, number.get()),
         Final::Integer(integer) => push_signed(reply, *integer as i64),
         Final::Color(color) => push_color(reply, *color),
         Final::Containment(containment) => push_containment(reply, *containment),
         Final::Names(names) => push_names(reply, names.as_slice()),
-    }
-}
-
-/// Appends a length in units, or millionths of a percent.
-fn push_length(reply: &mut String, length: Computed) -> Result<(), NoMemory>
-    ensures { OnOk result (string_bytes reply.new
-        ≡ string_bytes reply.old ++ length_text (computed_view length)) }
-{
-    match length {
-        Computed::Units(units) => push_signed(reply, units.get() as i64),
-        Computed::Percent(number) => push_tagged(reply, "pct:", number.get()),
     }
 }
 

@@ -1,5 +1,5 @@
--- Which pages have styles that are not built yet: those with custom properties, functions, units of
--- containers, or conditions.
+-- Which pages have styles that are not built yet: those with custom properties, units of containers, or
+-- conditions.
 use Rattle.std.specs.Prelude.{ℕ, ◌||◌, List, [], ◌∷◌, codes, Bool, true, false}
 use Rattle.std.specs.Char.{eq_ignore_ascii_case}
 use Rattle.std.specs.List.{list_any, starts_with}
@@ -19,17 +19,14 @@ use Rattle.selectors_model.specs.Matching.{elements_of}
 
 -- ---- values
 
--- references to custom properties, and calculations (CSS Variables 1, section 3; CSS Values 4, section 10)
-abbrev pub unbuilt_functions : List Text
-unbuilt_functions = codes "var" ∷ codes "calc" ∷ codes "min" ∷ codes "max" ∷ codes "clamp" ∷ []
-
 -- the units of containers (CSS Conditional 5, section 7)
 abbrev pub unbuilt_units : List Text
 unbuilt_units =
     codes "cqw" ∷ codes "cqh" ∷ codes "cqi" ∷ codes "cqb" ∷ codes "cqmin" ∷ codes "cqmax" ∷ []
 
+-- a reference to a custom property (CSS Variables 1, section 3), or a length in such a unit
 abbrev pub is_unbuilt_type : TokenType → Bool
-is_unbuilt_type (Function name) = list_any (str_eq_ignore_ascii_case name) unbuilt_functions
+is_unbuilt_type (Function name) = str_eq_ignore_ascii_case name (codes "var")
 is_unbuilt_type (Dimension n name) = list_any (str_eq_ignore_ascii_case name) unbuilt_units
 is_unbuilt_type other = false
 

@@ -43,8 +43,7 @@ pub fn examples_of_style_causes()
     ensures text_first { refusal_of (Some (page_with (codes "q{--a:1}"))) (query (Style 2)) ≡ Some NotElement }
 {}
 
-/// Custom properties, functions of variables and calculations, and units of containers, however deep
-/// and in any case.
+/// Custom properties, references to them, and units of containers, however deep and in any case.
 #[tactic(auto, unfolding(css_model::specs::inner::Nesting::levels_of, css_model::specs::inner::Pieces::pieces_after, css_model::specs::inner::Fronts::parts_after))]
 pub fn examples_of_unbuilt_values()
     ensures plain { has_unbuilt (style_attr_of (codes "width:1em;color:red")) ≡ false }
@@ -52,13 +51,14 @@ pub fn examples_of_unbuilt_values()
     ensures hyphens_alone { has_unbuilt (style_attr_of (codes "--:1")) ≡ true }
     ensures one_hyphen { has_unbuilt (style_attr_of (codes "-a:1")) ≡ false }
     ensures var { has_unbuilt (style_attr_of (codes "width:VAR(--a)")) ≡ true }
-    ensures calc { has_unbuilt (style_attr_of (codes "width:calc(1px)")) ≡ true }
-    ensures min { has_unbuilt (style_attr_of (codes "width:min(1px)")) ≡ true }
-    ensures max { has_unbuilt (style_attr_of (codes "width:max(1px)")) ≡ true }
-    ensures clamp { has_unbuilt (style_attr_of (codes "width:clamp(1px,1px,1px)")) ≡ true }
-    ensures deep { has_unbuilt (style_attr_of (codes "zz:a[{f(calc())}]")) ≡ true }
+    ensures calc { has_unbuilt (style_attr_of (codes "width:calc(1px)")) ≡ false }
+    ensures min { has_unbuilt (style_attr_of (codes "width:min(1px)")) ≡ false }
+    ensures max { has_unbuilt (style_attr_of (codes "width:max(1px)")) ≡ false }
+    ensures clamp { has_unbuilt (style_attr_of (codes "width:clamp(1px,1px,1px)")) ≡ false }
+    ensures in_a_calculation { has_unbuilt (style_attr_of (codes "width:calc(1px + 1cqw)")) ≡ true }
+    ensures deep { has_unbuilt (style_attr_of (codes "zz:a[{f(var())}]")) ≡ true }
     ensures other_function { has_unbuilt (style_attr_of (codes "color:rgb(1,2,3)")) ≡ false }
-    ensures a_name_alone { has_unbuilt (style_attr_of (codes "zz:calc")) ≡ false }
+    ensures a_name_alone { has_unbuilt (style_attr_of (codes "zz:var")) ≡ false }
     ensures cqw { has_unbuilt (style_attr_of (codes "width:1cqw")) ≡ true }
     ensures cqh { has_unbuilt (style_attr_of (codes "width:1CQH")) ≡ true }
     ensures cqi { has_unbuilt (style_attr_of (codes "width:1cqi")) ≡ true }

@@ -3,7 +3,7 @@ use Rattle.std.specs.Prelude.{[], ◌∷◌}
 use Rattle.conditions_model.specs.FeatureValues as judged
 use Rattle.conditions_model.specs.MediaQueries.{media_names}
 use Rattle.conditions_model.specs.SizeFeatures as model
-use Rattle.value_model.specs.Lengths.{dimension}
+use Rattle.query_units.specs.Views.{length_view}
 use Rattle.size_features.specs.declared.bound.Bound.{Bound}
 use Rattle.size_features.specs.declared.bound.FeatureValue.{FeatureValue}
 use Rattle.size_features.specs.declared.bound.FeatureValue.TheVariants.{Length, Ratio as ARatio}
@@ -18,7 +18,7 @@ abbrev pub names_of : FeatureNames → model.Names
 names_of Media = media_names
 
 abbrev pub value_view : FeatureValue → model.FeatureValue
-value_view (Length millionths u) = model.length_value (dimension millionths u)
+value_view (Length l) = model.length_value (length_view l)
 value_view (ARatio r) = model.ratio_value r.across r.down
 
 abbrev pub bound_view : Bound → model.Bound

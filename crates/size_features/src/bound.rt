@@ -1,20 +1,19 @@
 //! What features are compared with (Media Queries 4, section 2.4).
 use crate::ratio::Ratio;
 use conditions_model::Comparison;
-use units64::Fixed6;
-use value_model::LengthUnit;
+use query_units::Length;
 
 /// What a feature is compared with.
-#[derive(Clone, Copy, Debug, PartialEq, Eq)]
+#[derive(Debug, Drop)]
 pub enum FeatureValue {
-    /// A length: so many of a unit.
-    Length(Fixed6, LengthUnit),
+    /// A length, literal or calculated.
+    Length(Length),
     /// A ratio.
     Ratio(Ratio),
 }
 
 /// A comparison of a feature, and what it is compared with.
-#[derive(Clone, Copy, Debug, PartialEq, Eq)]
+#[derive(Debug, Drop)]
 pub struct Bound {
     /// The comparison.
     pub comparison: Comparison,

@@ -4,7 +4,7 @@ use conditions_model::{FeatureName, Orientation};
 use std::marker::Model;
 
 /// In which form a feature is written.
-#[derive(Clone, Copy, Debug, PartialEq, Eq)]
+#[derive(Debug, Drop)]
 pub enum Form {
     /// `(f)`.
     Boolean(FeatureName),
@@ -25,8 +25,11 @@ pub struct SizeFeature {
 impl Model for SizeFeature {
     ghost use Rattle.conditions_model.specs.SizeFeatures as model;
     ghost use Rattle.size_features.specs.Views.{form_view};
+    ghost use Rattle.conditions_model.specs.FeatureCode.{coded_feature};
 
     ghost Value = { model.SizeFeature };
+
+    ghost coded = { coded_feature };
 
     ghost view = { λ f. form_view f.form };
 }

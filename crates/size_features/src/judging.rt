@@ -7,7 +7,6 @@ use crate::bound::{Bound, FeatureValue};
 use crate::feature::{Form, SizeFeature};
 use crate::measured::Measured;
 use conditions_model::{Comparison, FeatureName, Orientation};
-use query_units::Length;
 use std::cmp::Ordering;
 use units64::{Units, cmp_length, cmp_ratio};
 
@@ -74,10 +73,7 @@ fn order_of(m: &Measured, f: FeatureName, value: &FeatureValue) -> Ordering
     ensures { result ≡ model.order_of (measured_view m.now) f (value_view value.now) }
 {
     match value {
-        FeatureValue::Length(number, unit) => {
-            let length = Length::Dimension(*number, *unit).value(&m.bases);
-            cmp_length(measured_side(m, f), length)
-        }
+        FeatureValue::Length(length) => cmp_length(measured_side(m, f), length.value(&m.bases)),
         FeatureValue::Ratio(ratio) => cmp_ratio(m.width, m.height, ratio.across, ratio.down),
     }
 }

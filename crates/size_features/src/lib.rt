@@ -19,5 +19,5 @@ pub use conditions_model::{Comparison, FeatureName, Orientation};
 pub use feature::SizeFeature;
 pub use judging::feature_holds;
 pub use measured::Measured;
-pub use names::{FeatureNames, ident_of};
+pub use names::FeatureNames;
 pub use reading::read_size_feature;

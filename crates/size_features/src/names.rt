@@ -3,13 +3,12 @@ ghost use Rattle.conditions_model.specs.SizeFeatures as model;
 ghost use Rattle.css_tokens.specs.Nested.{component_view};
 ghost use Rattle.rules_model.specs.ComponentLists as lists;
 ghost use Rattle.size_features.specs.Views.{names_of};
-ghost use Rattle.std.specs.Option.{option_copied};
-ghost use Rattle.std.specs.Prelude.{◌≡◌};
+ghost use Rattle.std.specs.Prelude.{◌≡◌, option_and_then};
 
 use conditions_model::{Comparison, FeatureName};
-use css_tokens::{Component, TokenType};
+use css_tokens::Component;
 use port_core::Text;
-use query_units::find_word;
+use value_parts::{find_word, ident_of};
 
 /// Which names stand for which features.
 #[derive(Clone, Copy, Debug, PartialEq, Eq)]
@@ -70,7 +69,7 @@ fn named(names: FeatureNames, name: &Text) -> Option<FeatureName>
 }
 
 /// The feature of a name in the plain form, with its comparison.
-pub(crate) fn plain_name(names: FeatureNames, name: &Text) -> Option<(Comparison, FeatureName)>
+fn plain_name(names: FeatureNames, name: &Text) -> Option<(Comparison, FeatureName)>
     ensures { result ≡ model.plain_name (names_of names) name.now }
 {
     match names {
@@ -86,21 +85,11 @@ pub(crate) fn feature_name(names: FeatureNames, c: &Component) -> Option<Feature
     named(names, name)
 }
 
-/// Returns the name of the identifier that `c` is, if it is one.
-pub fn ident_of(c: &Component) -> Option<&Text>
-    ensures { option_copied result ≡ lists.ident_of (component_view c.now) }
+/// The feature of a component value's name in the plain form, with its comparison.
+pub(crate) fn plain_name_of(names: FeatureNames, c: &Component) -> Option<(Comparison, FeatureName)>
+    ensures { result ≡ option_and_then (model.plain_name (names_of names))
+        (lists.ident_of (component_view c.now)) }
 {
-    match c {
-        Component::One(token) => ident_of_type(&token.token_type),
-        _ => None,
-    }
-}
-
-fn ident_of_type(token_type: &TokenType) -> Option<&Text>
-    ensures { option_copied result ≡ lists.ident_of_type token_type.now }
-{
-    match token_type {
-        TokenType::Ident(name) => Some(name),
-        _ => None,
-    }
+    let name = ident_of(c)?;
+    plain_name(names, name)
 }

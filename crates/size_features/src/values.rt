@@ -3,48 +3,56 @@ ghost use Rattle.conditions_model.specs.SizeFeatures as model;
 ghost use Rattle.css_tokens.specs.Nested.{component_view, components_view, listed};
 ghost use Rattle.rules_model.specs.ComponentLists as lists;
 ghost use Rattle.size_features.specs.Views.{value_view};
-ghost use Rattle.std.specs.Prelude.{◌≡◌, ◌≤ℤ◌, pos, ◌∷◌, IfSome, Some, option_and_then, option_map};
+ghost use Rattle.std.specs.Prelude.{◌≡◌, ◌≤ℤ◌, pos, ◌∷◌, IfOk, IfSome, Some, false, option_and_then, option_map};
 ghost use Rattle.units64.specs.declared.constants.TheConstants.{MILLIONTHS_PER_PIXEL};
-ghost use Rattle.value_model.specs.Lengths as lengths;
+ghost use Rattle.value_model.specs.CalculationGrammar as grammar;
 ghost use Rattle.value_model.specs.Words.{words_of};
 
 use crate::bound::FeatureValue;
-use crate::names::ident_of;
 use crate::ratio::Ratio;
 use crate::white_space::only_trimmed;
 use conditions_model::{FeatureName, Orientation};
 use css_tokens::{Component, TokenType, is_word};
-use port_core::Text;
-use query_units::{Length, first_word, length_of, only_word};
+use port_core::{NoMemory, Text};
+use query_units::any_length_of;
+use std::alloc::Global;
 use units64::{Fixed6, MILLIONTHS_PER_PIXEL};
+use value_parts::{first_word, ident_of, only_word};
 
 /// A value of this feature that can be compared; `orientation` has none.
-pub(crate) fn value_of(f: FeatureName, components: &[Component]) -> Option<FeatureValue>
-    ensures { option_map value_view result ≡ model.value_of f (components_view components.now) }
+pub(crate) fn value_of(
+    alloc: Global,
+    f: FeatureName,
+    components: &[Component],
+) -> Result<Option<FeatureValue>, NoMemory>
+    ensures { IfOk result (λ v. option_map value_view v
+        ≡ model.value_of f (components_view components.now)) }
 {
     match f {
-        FeatureName::Width | FeatureName::Height => length_value(components),
-        FeatureName::AspectRatio => ratio_value(components),
-        FeatureName::Orientation => None,
+        FeatureName::Width | FeatureName::Height => length_value(alloc, components),
+        FeatureName::AspectRatio => Ok(ratio_value(components)),
+        FeatureName::Orientation => Ok(None),
     }
 }
 
-fn length_value(components: &[Component]) -> Option<FeatureValue>
-    ensures { option_map value_view result
-        ≡ option_map model.length_value (option_and_then lengths.length_of
-        (model.only_component (lists.trimmed (components_view components.now)))) }
+fn length_value(alloc: Global, components: &[Component]) -> Result<Option<FeatureValue>, NoMemory>
+    ensures { IfOk result (λ v. option_map value_view v
+        ≡ option_map model.length_value (option_and_then (grammar.any_length_of false)
+        (model.only_component (lists.trimmed (components_view components.now))))) }
 {
-    let only = only_trimmed(components)?;
-    length_of_word(only)
+    match only_trimmed(components) {
+        Some(only) => length_of_word(alloc, only),
+        None => Ok(None),
+    }
 }
 
-fn length_of_word(c: &Component) -> Option<FeatureValue>
-    ensures { option_map value_view result
-        ≡ option_map model.length_value (lengths.length_of (component_view c.now)) }
+fn length_of_word(alloc: Global, c: &Component) -> Result<Option<FeatureValue>, NoMemory>
+    ensures { IfOk result (λ v. option_map value_view v
+        ≡ option_map model.length_value (grammar.any_length_of false (component_view c.now))) }
 {
-    match length_of(c)? {
-        Length::Dimension(number, unit) => Some(FeatureValue::Length(number, unit)),
-        Length::Percentage(_) => None,
+    match any_length_of(alloc, c, false)? {
+        Some(length) => Ok(Some(FeatureValue::Length(length))),
+        None => Ok(None),
     }
 }
 

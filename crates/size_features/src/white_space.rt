@@ -6,7 +6,7 @@ ghost use Rattle.std.specs.Option.{option_copied};
 ghost use Rattle.std.specs.Prelude.{◌≡◌, if◌then◌else◌, option_map};
 
 use css_tokens::Component;
-use query_units::is_whitespace;
+use value_parts::is_whitespace;
 
 /// Without the white space at both ends.
 pub(crate) fn trimmed(components: &[Component]) -> &[Component]

@@ -9,11 +9,10 @@ use Rattle.value_model.specs.declared.length_unit.Bases.{Bases}
 use Rattle.value_model.specs.declared.prop.Prop.{Prop}
 use Rattle.value_model.specs.declared.prop.Prop.TheVariants.{Display, Width, Height, MinWidth, MinHeight, MaxWidth, MaxHeight, MarginTop, MarginRight, MarginBottom, MarginLeft, PaddingTop, PaddingRight, PaddingBottom, PaddingLeft, BorderTopWidth, BorderRightWidth, BorderBottomWidth, BorderLeftWidth, BorderTopStyle, BorderRightStyle, BorderBottomStyle, BorderLeftStyle, BorderTopColor, BorderRightColor, BorderBottomColor, BorderLeftColor, BoxSizing, FontSize, LineHeight, Color, BackgroundColor, TextAlign, WhiteSpace, Overflow, Contain, ContainerType, ContainerName, Visibility, Opacity, FontStyle, FontWeight, ZIndex, TextDecorationLine, PointerEvents}
 use Rattle.value_model.specs.Computing.{border_width, alignment, weight}
-use Rattle.value_model.specs.Lengths.{computed_length}
 use Rattle.value_model.specs.Properties.{property}
 use Rattle.value_model.specs.Values.{alpha}
-use Rattle.value_laws.specs.ComputedForms.{is_among, is_one_of, is_absolute_length, is_alpha, is_integer_between, is_computed, NotNegative, Computes}
-use Rattle.value_laws.proofs.Lengths.{tested, dimension-from_zero, length-from_zero, any-length, absolute-computed}
+use Rattle.value_laws.specs.ComputedForms.{is_among, is_one_of, is_absolute_length, is_alpha, is_integer_between, is_computed, Computes}
+use Rattle.calculations_laws.proofs.Lengths.{any-length, from-zero}
 use Rattle.value_laws.proofs.Values.{OfForms}
 
 -- ---- what computes to something else
@@ -38,6 +37,9 @@ weight-computed : (k : Keyword) → is_integer_between 1 1000 (weight k) ≡ tru
 weight-computed Bold = refl
 weight-computed k = refl
 
+tested : (n : ℤ) → pos 0 ≤ℤ n → int_le (pos 0) n ≡ true
+tested n h = grind (arith, ints)
+
 above-zero : (n : ℤ) → int_le (pos 0) (int_max (pos 0) n) ≡ true
 above-zero n = tested (int_max (pos 0) n) (omega (arith, ints, clamps))
 
@@ -60,66 +62,66 @@ flipped : (a : Bool) → a ≡ false → not a ≡ true
 flipped true h = (cc)
 flipped false h = refl
 
-pub computes-forms : (p : Prop) (b : Bases) (parent_font : ℤ) → NotNegative b
+pub computes-forms : (p : Prop) (b : Bases) (parent_font : ℤ)
     → OfForms (property p).forms (Computes b parent_font p)
-computes-forms Display b parent_font h = (λ k m _. m, tt)
-computes-forms Width b parent_font h =
-    (λ k m _. first _ false m, (λ l m _. length-from_zero b l h m, tt))
-computes-forms Height b parent_font h =
-    (λ k m _. first _ false m, (λ l m _. length-from_zero b l h m, tt))
-computes-forms MinWidth b parent_font h = (λ k m _. refl, (λ l m _. length-from_zero b l h m, tt))
-computes-forms MinHeight b parent_font h = (λ k m _. refl, (λ l m _. length-from_zero b l h m, tt))
-computes-forms MaxWidth b parent_font h =
-    (λ k m _. first _ false m, (λ l m _. length-from_zero b l h m, tt))
-computes-forms MaxHeight b parent_font h =
-    (λ k m _. first _ false m, (λ l m _. length-from_zero b l h m, tt))
-computes-forms MarginTop b parent_font h = (λ k m _. first _ false m, (λ l _. any-length b l, tt))
-computes-forms MarginRight b parent_font h = (λ k m _. first _ false m, (λ l _. any-length b l, tt))
-computes-forms MarginBottom b parent_font h =
+computes-forms Display b parent_font = (λ k m _. m, tt)
+computes-forms Width b parent_font =
     (λ k m _. first _ false m, (λ l _. any-length b l, tt))
-computes-forms MarginLeft b parent_font h = (λ k m _. first _ false m, (λ l _. any-length b l, tt))
-computes-forms PaddingTop b parent_font h = (λ l m _. length-from_zero b l h m, tt)
-computes-forms PaddingRight b parent_font h = (λ l m _. length-from_zero b l h m, tt)
-computes-forms PaddingBottom b parent_font h = (λ l m _. length-from_zero b l h m, tt)
-computes-forms PaddingLeft b parent_font h = (λ l m _. length-from_zero b l h m, tt)
-computes-forms BorderTopWidth b parent_font h =
-    (λ k m _. width-computed k m, (λ n u m _. dimension-from_zero b n u h m, tt))
-computes-forms BorderRightWidth b parent_font h =
-    (λ k m _. width-computed k m, (λ n u m _. dimension-from_zero b n u h m, tt))
-computes-forms BorderBottomWidth b parent_font h =
-    (λ k m _. width-computed k m, (λ n u m _. dimension-from_zero b n u h m, tt))
-computes-forms BorderLeftWidth b parent_font h =
-    (λ k m _. width-computed k m, (λ n u m _. dimension-from_zero b n u h m, tt))
-computes-forms BorderTopStyle b parent_font h = (λ k m _. m, tt)
-computes-forms BorderRightStyle b parent_font h = (λ k m _. m, tt)
-computes-forms BorderBottomStyle b parent_font h = (λ k m _. m, tt)
-computes-forms BorderLeftStyle b parent_font h = (λ k m _. m, tt)
-computes-forms BorderTopColor b parent_font h = ((λ _. refl, λ c m _. m), tt)
-computes-forms BorderRightColor b parent_font h = ((λ _. refl, λ c m _. m), tt)
-computes-forms BorderBottomColor b parent_font h = ((λ _. refl, λ c m _. m), tt)
-computes-forms BorderLeftColor b parent_font h = ((λ _. refl, λ c m _. m), tt)
-computes-forms BoxSizing b parent_font h = (λ k m _. m, tt)
-computes-forms FontSize b parent_font h =
-    (λ k m _. refl, (λ l m _. absolute-computed parent_font (computed_length b l), tt))
-computes-forms LineHeight b parent_font h = (
+computes-forms Height b parent_font =
+    (λ k m _. first _ false m, (λ l _. any-length b l, tt))
+computes-forms MinWidth b parent_font = (λ k m _. refl, (λ l _. any-length b l, tt))
+computes-forms MinHeight b parent_font = (λ k m _. refl, (λ l _. any-length b l, tt))
+computes-forms MaxWidth b parent_font =
+    (λ k m _. first _ false m, (λ l _. any-length b l, tt))
+computes-forms MaxHeight b parent_font =
+    (λ k m _. first _ false m, (λ l _. any-length b l, tt))
+computes-forms MarginTop b parent_font = (λ k m _. first _ false m, (λ l _. any-length b l, tt))
+computes-forms MarginRight b parent_font = (λ k m _. first _ false m, (λ l _. any-length b l, tt))
+computes-forms MarginBottom b parent_font =
+    (λ k m _. first _ false m, (λ l _. any-length b l, tt))
+computes-forms MarginLeft b parent_font = (λ k m _. first _ false m, (λ l _. any-length b l, tt))
+computes-forms PaddingTop b parent_font = (λ l _. any-length b l, tt)
+computes-forms PaddingRight b parent_font = (λ l _. any-length b l, tt)
+computes-forms PaddingBottom b parent_font = (λ l _. any-length b l, tt)
+computes-forms PaddingLeft b parent_font = (λ l _. any-length b l, tt)
+computes-forms BorderTopWidth b parent_font =
+    (λ k m _. width-computed k m, (λ l _. from-zero b (pos 0) l, tt))
+computes-forms BorderRightWidth b parent_font =
+    (λ k m _. width-computed k m, (λ l _. from-zero b (pos 0) l, tt))
+computes-forms BorderBottomWidth b parent_font =
+    (λ k m _. width-computed k m, (λ l _. from-zero b (pos 0) l, tt))
+computes-forms BorderLeftWidth b parent_font =
+    (λ k m _. width-computed k m, (λ l _. from-zero b (pos 0) l, tt))
+computes-forms BorderTopStyle b parent_font = (λ k m _. m, tt)
+computes-forms BorderRightStyle b parent_font = (λ k m _. m, tt)
+computes-forms BorderBottomStyle b parent_font = (λ k m _. m, tt)
+computes-forms BorderLeftStyle b parent_font = (λ k m _. m, tt)
+computes-forms BorderTopColor b parent_font = ((λ _. refl, λ c m _. m), tt)
+computes-forms BorderRightColor b parent_font = ((λ _. refl, λ c m _. m), tt)
+computes-forms BorderBottomColor b parent_font = ((λ _. refl, λ c m _. m), tt)
+computes-forms BorderLeftColor b parent_font = ((λ _. refl, λ c m _. m), tt)
+computes-forms BoxSizing b parent_font = (λ k m _. m, tt)
+computes-forms FontSize b parent_font =
+    (λ k m _. refl, (λ l _. from-zero b parent_font l, tt))
+computes-forms LineHeight b parent_font = (
   λ k m _. first _ false m,
-  (λ n m _. first _ false m, (λ l m _. absolute-computed b.em (computed_length b l), tt)),
+  (λ n m _. first _ false m, (λ l _. from-zero b b.em l, tt)),
 )
-computes-forms Color b parent_font h = ((λ n. (cc), λ c m _. m), tt)
-computes-forms BackgroundColor b parent_font h = ((λ _. refl, λ c m _. m), tt)
-computes-forms TextAlign b parent_font h = (λ k m _. alignment-computed k m, tt)
-computes-forms WhiteSpace b parent_font h = (λ k m _. m, tt)
-computes-forms Overflow b parent_font h = (λ k m _. m, tt)
-computes-forms Contain b parent_font h = (λ c m _. flipped _ m, tt)
-computes-forms ContainerType b parent_font h = (λ k m _. m, tt)
-computes-forms ContainerName b parent_font h = (λ ns m _. m, tt)
-computes-forms Visibility b parent_font h = (λ k m _. m, tt)
-computes-forms Opacity b parent_font h = (λ n _. alpha-computed n, tt)
-computes-forms FontStyle b parent_font h = (λ k m _. m, tt)
-computes-forms FontWeight b parent_font h = (λ k m _. weight-computed k, (λ n m _. m, tt))
-computes-forms ZIndex b parent_font h = (λ k m _. first _ false m, (λ n _. refl, tt))
-computes-forms TextDecorationLine b parent_font h = (λ k m _. m, tt)
-computes-forms PointerEvents b parent_font h = (λ k m _. m, tt)
+computes-forms Color b parent_font = ((λ n. (cc), λ c m _. m), tt)
+computes-forms BackgroundColor b parent_font = ((λ _. refl, λ c m _. m), tt)
+computes-forms TextAlign b parent_font = (λ k m _. alignment-computed k m, tt)
+computes-forms WhiteSpace b parent_font = (λ k m _. m, tt)
+computes-forms Overflow b parent_font = (λ k m _. m, tt)
+computes-forms Contain b parent_font = (λ c m _. flipped _ m, tt)
+computes-forms ContainerType b parent_font = (λ k m _. m, tt)
+computes-forms ContainerName b parent_font = (λ ns m _. m, tt)
+computes-forms Visibility b parent_font = (λ k m _. m, tt)
+computes-forms Opacity b parent_font = (λ n _. alpha-computed n, tt)
+computes-forms FontStyle b parent_font = (λ k m _. m, tt)
+computes-forms FontWeight b parent_font = (λ k m _. weight-computed k, (λ n m _. m, tt))
+computes-forms ZIndex b parent_font = (λ k m _. first _ false m, (λ n _. refl, tt))
+computes-forms TextDecorationLine b parent_font = (λ k m _. m, tt)
+computes-forms PointerEvents b parent_font = (λ k m _. m, tt)
 
 pub initial-computed : (p : Prop) → is_computed p (property p).initial ≡ true
 initial-computed Display = refl

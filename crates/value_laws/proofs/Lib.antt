@@ -1,7 +1,6 @@
 pub mod Colors
 pub mod Computed
 pub mod Found
-pub mod Lengths
 pub mod Longhands
 pub mod Places
 pub mod ShorthandValues

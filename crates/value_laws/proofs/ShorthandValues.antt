@@ -21,7 +21,7 @@ use Rattle.value_model.specs.Shorthands
 use Rattle.value_model.specs.Shorthands.{Longhand, Border, BorderParts, Shorthand, four_sides, two_sides, borders, background, container, all, top_border, right_border, bottom_border, left_border, longhands, longhand, with_width, with_style, with_color, border_part, border_parts, border_values, border_values_of, own_values_of, expansion_of, before_slash, after_slash, container_type_of, transparent, shorthands, shorthand_of_name}
 use Rattle.value_model.specs.Values.{Value, wide_keyword, keyword_value, color_value}
 use Rattle.value_model.specs.Words.{words_of}
-use Rattle.value_laws.specs.ComputedForms.{NotNegative, Computes}
+use Rattle.value_laws.specs.ComputedForms.{Computes}
 use Rattle.value_laws.proofs.Computed.{computes-forms, initial-computed}
 use Rattle.value_laws.proofs.Found.{if-all, if-map, if-then, if-or, if-either, from-if}
 use Rattle.value_laws.proofs.Values.{of-forms}
@@ -40,9 +40,9 @@ one-more b f p v ls h k = All-cons (λ l. Computes b f l.0 l.1) (p, v) ls h k
 
 -- ---- one value for each side
 
-own : (b : Bases) (f : ℤ) → NotNegative b → (p : Prop) (words : List Component)
+own : (b : Bases) (f : ℤ) (p : Prop) (words : List Component)
     → IfSome (own_value_of p words) (Computes b f p)
-own b f n p words = of-forms (property p).forms (Computes b f p) (computes-forms p b f n) words
+own b f p words = of-forms (property p).forms (Computes b f p) (computes-forms p b f) words
 
 front-of : (b : Bases) (f : ℤ) (p : Prop) (o : Option Value) (rest : Option (List Longhand))
     → IfSome o (Computes b f p) → IfSome rest (AllCompute b f)
@@ -55,38 +55,38 @@ last-of : (b : Bases) (f : ℤ) (p : Prop) (o : Option Value) → IfSome o (Comp
     → IfSome (in_front (option_map (λ v. (p, v)) o) (Some [])) (AllCompute b f)
 last-of b f p o h = front-of b f p o (Some []) h (nothing b f)
 
-two-of : (b : Bases) (f : ℤ) → NotNegative b → (p q : Prop) (w x : Component)
+two-of : (b : Bases) (f : ℤ) (p q : Prop) (w x : Component)
     → IfSome (Shorthands.each_of_two_values p q w x) (AllCompute b f)
-two-of b f n p q w x =
+two-of b f p q w x =
     front-of b f p (own_value_of p (w ∷ [])) (in_front (longhand q x) (Some []))
-    (own b f n p (w ∷ []))
-    (last-of b f q (own_value_of q (x ∷ [])) (own b f n q (x ∷ [])))
+    (own b f p (w ∷ []))
+    (last-of b f q (own_value_of q (x ∷ [])) (own b f q (x ∷ [])))
 
-four-of : (b : Bases) (f : ℤ) → NotNegative b → (p q r s : Prop) (w x y z : Component)
+four-of : (b : Bases) (f : ℤ) (p q r s : Prop) (w x y z : Component)
     → IfSome (Shorthands.each_of_four_values p q r s w x y z) (AllCompute b f)
-four-of b f n p q r s w x y z =
+four-of b f p q r s w x y z =
     front-of b f p (own_value_of p (w ∷ []))
     (in_front (longhand q x) (in_front (longhand r y) (in_front (longhand s z) (Some []))))
-    (own b f n p (w ∷ []))
+    (own b f p (w ∷ []))
     (front-of b f q (own_value_of q (x ∷ []))
     (in_front (longhand r y) (in_front (longhand s z) (Some [])))
-    (own b f n q (x ∷ [])) (two-of b f n r s y z))
+    (own b f q (x ∷ [])) (two-of b f r s y z))
 
-each-two : (b : Bases) (f : ℤ) → NotNegative b → (p q : Prop) (words : List Component)
+each-two : (b : Bases) (f : ℤ) (p q : Prop) (words : List Component)
     → IfSome (Shorthands.each_of_two p q words) (AllCompute b f)
-each-two b f n p q [] = tt
-each-two b f n p q (w ∷ []) = two-of b f n p q w w
-each-two b f n p q (w ∷ x ∷ []) = two-of b f n p q w x
-each-two b f n p q (w ∷ x ∷ y ∷ words) = tt
+each-two b f p q [] = tt
+each-two b f p q (w ∷ []) = two-of b f p q w w
+each-two b f p q (w ∷ x ∷ []) = two-of b f p q w x
+each-two b f p q (w ∷ x ∷ y ∷ words) = tt
 
-each-four : (b : Bases) (f : ℤ) → NotNegative b → (p q r s : Prop) (words : List Component)
+each-four : (b : Bases) (f : ℤ) (p q r s : Prop) (words : List Component)
     → IfSome (Shorthands.each_of_four p q r s words) (AllCompute b f)
-each-four b f n p q r s [] = tt
-each-four b f n p q r s (w ∷ []) = four-of b f n p q r s w w w w
-each-four b f n p q r s (w ∷ x ∷ []) = four-of b f n p q r s w x w x
-each-four b f n p q r s (w ∷ x ∷ y ∷ []) = four-of b f n p q r s w x y x
-each-four b f n p q r s (w ∷ x ∷ y ∷ z ∷ []) = four-of b f n p q r s w x y z
-each-four b f n p q r s (w ∷ x ∷ y ∷ z ∷ v ∷ words) = tt
+each-four b f p q r s [] = tt
+each-four b f p q r s (w ∷ []) = four-of b f p q r s w w w w
+each-four b f p q r s (w ∷ x ∷ []) = four-of b f p q r s w x w x
+each-four b f p q r s (w ∷ x ∷ y ∷ []) = four-of b f p q r s w x y x
+each-four b f p q r s (w ∷ x ∷ y ∷ z ∷ []) = four-of b f p q r s w x y z
+each-four b f p q r s (w ∷ x ∷ y ∷ z ∷ v ∷ words) = tt
 
 -- ---- borders
 
@@ -106,8 +106,8 @@ abbrev Adds : Bases → ℤ → (BorderParts → Option BorderParts) → Type 0
 Adds b f add = (parts : BorderParts) → PartsCompute b f parts → IfSome (add parts)
     (PartsCompute b f)
 
-part-of : (b : Bases) (f : ℤ) → NotNegative b → (c : Component) → IfSome (border_part c) (Adds b f)
-part-of b f n c =
+part-of : (b : Bases) (f : ℤ) (c : Component) → IfSome (border_part c) (Adds b f)
+part-of b f c =
     if-or (Adds b f) (option_map with_width (own_value_of BorderTopWidth (c ∷ []))) _
     (if-map with_width (Adds b f) (own_value_of BorderTopWidth (c ∷ []))
     (with-part BorderTopWidth with_width
@@ -126,14 +126,14 @@ part-of b f n c =
     with-part : (p : Prop) (with : Value → BorderParts → Option BorderParts)
         → ((v : Value) → Computes b f p v → Adds b f (with v))
         → IfSome (own_value_of p (c ∷ [])) (λ v. Adds b f (with v))
-    with-part p with h = IfSome_then (own_value_of p (c ∷ [])) (own b f n p (c ∷ [])) h
+    with-part p with h = IfSome_then (own_value_of p (c ∷ [])) (own b f p (c ∷ [])) h
 
-parts-of : (b : Bases) (f : ℤ) → NotNegative b → (words : List Component)
+parts-of : (b : Bases) (f : ℤ) (words : List Component)
     → IfSome (border_parts words) (PartsCompute b f)
-parts-of b f n [] = record { width = tt; style = tt; color = tt }
-parts-of b f n (c ∷ cs) =
+parts-of b f [] = record { width = tt; style = tt; color = tt }
+parts-of b f (c ∷ cs) =
     if-then (λ add. option_and_then add (border_parts cs)) (PartsCompute b f) (border_part c)
-    (added (border_part c) (part-of b f n c) (border_parts cs) (parts-of b f n cs))
+    (added (border_part c) (part-of b f c) (border_parts cs) (parts-of b f cs))
   where
     added : (o : Option (BorderParts → Option BorderParts)) → IfSome o (Adds b f)
         → (rest : Option BorderParts) → IfSome rest (PartsCompute b f)
@@ -185,13 +185,13 @@ values-of b f (side ∷ sides) h parts k =
     (one-more b f side.color (color-in parts) (border_values sides parts) color
     (values-of b f sides h.1 parts k)))
 
-sides-of : (b : Bases) (f : ℤ) → NotNegative b → (sides : List Border)
+sides-of : (b : Bases) (f : ℤ) (sides : List Border)
     → AllByRecursion (AsTop b f) sides
     → (words : List Component) → IfSome (border_values_of sides words) (AllCompute b f)
-sides-of b f n sides h [] = tt
-sides-of b f n sides h (c ∷ cs) =
+sides-of b f sides h [] = tt
+sides-of b f sides h (c ∷ cs) =
     if-map (border_values sides) (AllCompute b f) (border_parts (c ∷ cs))
-    (of-parts (border_parts (c ∷ cs)) (parts-of b f n (c ∷ cs)))
+    (of-parts (border_parts (c ∷ cs)) (parts-of b f (c ∷ cs)))
   where
     of-parts : (o : Option BorderParts) → IfSome o (PartsCompute b f)
         → IfSome o (λ parts. AllCompute b f (border_values sides parts))
@@ -205,31 +205,31 @@ abbrev pub HasBorders : Bases → ℤ → Shorthand → Type 0
 HasBorders b f (borders sides) = AllByRecursion (AsTop b f) sides
 HasBorders b f s = Unit {0}
 
-type-of : (b : Bases) (f : ℤ) → NotNegative b → (o : Option (List Component))
+type-of : (b : Bases) (f : ℤ) (o : Option (List Component))
     → IfSome (container_type_of o) (Computes b f ContainerType)
-type-of b f n None = λ _. refl
-type-of b f n (Some words) = own b f n ContainerType words
+type-of b f None = λ _. refl
+type-of b f (Some words) = own b f ContainerType words
 
-own-values : (b : Bases) (f : ℤ) → NotNegative b → (s : Shorthand) → HasBorders b f s
+own-values : (b : Bases) (f : ℤ) (s : Shorthand) → HasBorders b f s
     → (words : List Component)
     → IfSome (own_values_of s words) (AllCompute b f)
-own-values b f n (four_sides p q r s) h words = each-four b f n p q r s words
-own-values b f n (two_sides p q) h words = each-two b f n p q words
-own-values b f n (borders sides) h words = sides-of b f n sides h words
-own-values b f n background h words =
+own-values b f (four_sides p q r s) h words = each-four b f p q r s words
+own-values b f (two_sides p q) h words = each-two b f p q words
+own-values b f (borders sides) h words = sides-of b f sides h words
+own-values b f background h words =
     last-of b f BackgroundColor
     (if is_none_alone words then Some transparent else own_value_of BackgroundColor words)
     (if-either (is_none_alone words) (Computes b f BackgroundColor) (Some transparent)
     (own_value_of BackgroundColor words)
-    (λ _ _. refl) (λ _. own b f n BackgroundColor words))
-own-values b f n container h words =
+    (λ _ _. refl) (λ _. own b f BackgroundColor words))
+own-values b f container h words =
     front-of b f ContainerName (own_value_of ContainerName (before_slash words))
     (in_front (option_map (λ v. (ContainerType, v)) (container_type_of (after_slash words)))
     (Some []))
-    (own b f n ContainerName (before_slash words))
+    (own b f ContainerName (before_slash words))
     (last-of b f ContainerType (container_type_of (after_slash words))
-    (type-of b f n (after_slash words)))
-own-values b f n all h words = tt
+    (type-of b f (after_slash words)))
+own-values b f all h words = tt
 
 wide-values : (b : Bases) (f : ℤ) (ps : List Prop) (w : WideKeyword)
     → AllCompute b f (map (λ p. (p, wide_keyword w)) ps)
@@ -238,17 +238,17 @@ wide-values b f (p ∷ ps) w =
     one-more b f p (wide_keyword w) (map (λ p. (p, wide_keyword w)) ps) (λ _. initial-computed p)
     (wide-values b f ps w)
 
-expansion-computes : (b : Bases) (f : ℤ) → NotNegative b → (s : Shorthand) → HasBorders b f s
+expansion-computes : (b : Bases) (f : ℤ) (s : Shorthand) → HasBorders b f s
     → (cs : Components)
     → IfSome (expansion_of s cs) (AllCompute b f)
-expansion-computes b f n s h cs =
+expansion-computes b f s h cs =
     if-or (AllCompute b f)
     (option_map (λ w. map (λ p. (p, wide_keyword w)) (longhands s)) (wide_keyword_of (words_of cs)))
     (own_values_of s (words_of cs))
     (if-map (λ w. map (λ p. (p, wide_keyword w)) (longhands s)) (AllCompute b f)
     (wide_keyword_of (words_of cs))
     (if-all _ (wide_keyword_of (words_of cs)) (wide-values b f (longhands s))))
-    (own-values b f n s h (words_of cs))
+    (own-values b f s h (words_of cs))
 
 -- ---- the table of shorthands
 
@@ -304,10 +304,10 @@ table-borders b f = (
   ),
 )
 
-pub shorthand-computes : (b : Bases) (f : ℤ) → NotNegative b → (name : Text) (s : Shorthand)
+pub shorthand-computes : (b : Bases) (f : ℤ) (name : Text) (s : Shorthand)
     → shorthand_of_name name ≡ Some s
     → (cs : Components) → IfSome (expansion_of s cs) (AllCompute b f)
-shorthand-computes b f n name s e cs =
-    expansion-computes b f n s
+shorthand-computes b f name s e cs =
+    expansion-computes b f s
     (from-if (HasBorders b f) (shorthand_of_name name) s e
     (in-table (HasBorders b f) (str_eq_ignore_ascii_case name) shorthands (table-borders b f))) cs

@@ -1,31 +1,28 @@
 -- What holds of each value of a form holds of the value of component values (CSS Values 4, section 2).
 use Rattle.std.proofs.Common.{◌≡◌, refl, ◌&&◌, ◌||◌, List, [], ◌∷◌, Bool, true, false, inl, inr}
-use Rattle.std.specs.Prelude.{ℤ, pos, codes, int_le, int_lt, Option, Some, None, IfSome, option_map}
+use Rattle.std.specs.Prelude.{ℤ, pos, codes, int_le, Option, Some, None, IfSome, option_map}
 use Rattle.std.specs.List.{find, list_all}
 use Rattle.std.specs.Map.{lookup}
-use Rattle.std.specs.Ordering.{int_eq}
 use Rattle.std.specs.Str.{bytes_eq, str_eq_ignore_ascii_case}
 use Rattle.std.proofs.lemmas.Bool.{cases_Bool}
 use Rattle.std.proofs.lemmas.Option.{IfSome_then}
 use Rattle.std.proofs.lemmas.Slice.Eq.{bytes_eq-Decides}
-use Rattle.css_model.specs.declared.token.TokenType.{TokenType}
-use Rattle.css_model.specs.declared.token.TokenType.TheVariants.{Number, Dimension}
 use Rattle.css_model.specs.Classes.{Text}
-use Rattle.css_model.specs.Components.{Component, Components, preserved}
+use Rattle.css_model.specs.Components.{Component, Components}
 use Rattle.rules_model.specs.ComponentLists.{ident_of}
 use Rattle.value_model.specs.declared.color.Color.TheVariants.{CurrentColor, Rgba as AnRgba}
 use Rattle.value_model.specs.declared.color.Rgba.{Rgba}
 use Rattle.value_model.specs.declared.containment.Containment.{Containment}
 use Rattle.value_model.specs.declared.keyword.Keyword.{Keyword}
-use Rattle.value_model.specs.declared.length_unit.LengthBase.TheVariants.{Pixel}
-use Rattle.value_model.specs.declared.length_unit.LengthUnit.{LengthUnit}
 use Rattle.value_model.specs.declared.prop.Prop.{Prop}
 use Rattle.value_model.specs.declared.wide_keyword.WideKeyword.{WideKeyword}
+use Rattle.value_model.specs.CalculationGrammar.{any_length_of, length_from_zero_of}
+use Rattle.value_model.specs.Calculations.{Calculation}
 use Rattle.value_model.specs.Colors.{color_of}
-use Rattle.value_model.specs.Forms.{Form, one_of, a_length, a_length_or_percentage, any_length_or_percentage, a_number, any_number, an_integer_between, any_integer, a_color, a_containment, container_names, keyword_among, not_negative, number_of, integer_of, is_between, unless, with_containment, containment_of_words, whole_containments, whole_containment, containment_of, container_name_of, in_front, names_of, is_none_alone, container_names_of, value_of_one, value_of_form}
+use Rattle.value_model.specs.Forms.{Form, one_of, a_length, a_length_or_percentage, any_length_or_percentage, a_number, any_number, an_integer_between, any_integer, a_color, a_containment, container_names, keyword_among, number_of, integer_of, is_between, unless, with_containment, containment_of_words, whole_containments, whole_containment, containment_of, container_name_of, in_front, names_of, is_none_alone, container_names_of, value_of_one, value_of_form}
 use Rattle.value_model.specs.Grammar.{value_of_forms, value_of, wide_keyword_of, own_value_of}
 use Rattle.value_model.specs.Keywords.{keyword_text}
-use Rattle.value_model.specs.Lengths.{Length, dimension, is_negative, length_of_type, length_of, length_or_percentage_of, unit, unit_of}
+use Rattle.value_model.specs.Lengths.{Length}
 use Rattle.value_model.specs.Properties.{property}
 use Rattle.value_model.specs.Values.{Value, wide_keyword, keyword_value, length_value, number_value, integer_value, color_value, containment_value, names_value}
 use Rattle.value_model.specs.Words.{words_of}
@@ -38,10 +35,9 @@ use Rattle.value_laws.proofs.Found.{if-all, if-map, if-then, if-or, if-test, if-
 -- this holds of each value of a form
 abbrev pub OfForm : Form → (Value → Type 0) → Type 0
 OfForm (one_of keywords) P = (k : Keyword) → is_among keywords k ≡ true → P (keyword_value k)
-OfForm a_length P = (n : ℤ) (u : LengthUnit) → int_lt n (pos 0) ≡ false → P
-    (length_value (dimension n u))
-OfForm a_length_or_percentage P = (l : Length) → is_negative l ≡ false → P (length_value l)
-OfForm any_length_or_percentage P = (l : Length) → P (length_value l)
+OfForm a_length P = (l : Calculation Length) → P (length_value l)
+OfForm a_length_or_percentage P = (l : Calculation Length) → P (length_value l)
+OfForm any_length_or_percentage P = (l : Calculation Length) → P (length_value l)
 OfForm a_number P = (n : ℤ) → int_le (pos 0) n ≡ true → P (number_value n)
 OfForm any_number P = (n : ℤ) → P (number_value n)
 OfForm (an_integer_between least greatest) P =
@@ -84,32 +80,6 @@ if-keyword keywords P h c =
     (ident_of c)
     (if-all (λ name. IfSome
     (find (λ k. str_eq_ignore_ascii_case name (keyword_text k)) keywords) P) (ident_of c) named)
-
--- ---- lengths
-
-if-not_negative : (P : Length → Type 0) (o : Option Length)
-    → IfSome o (λ l. is_negative l ≡ false → P l)
-    → IfSome (not_negative o) P
-if-not_negative P None h = tt
-if-not_negative P (Some l) h = if-either (is_negative l) P None (Some l) (λ _. tt) h
-
--- what holds of dimensions holds of each length
-dimension-found : (P : Length → Type 0) → ((n : ℤ) (u : LengthUnit) → P (dimension n u))
-    → (t : TokenType)
-    → IfSome (length_of_type t) P
-dimension-found P h (Dimension n name) =
-    if-map (λ u. dimension n.millionths u) P (unit_of name)
-    (if-all (λ u. P (dimension n.millionths u)) (unit_of name) (h n.millionths))
-dimension-found P h (Number n) =
-    if-either (int_eq n.millionths (pos 0)) P (Some (dimension (pos 0) (unit Pixel 1 1))) None
-    (λ _. h (pos 0) (unit Pixel 1 1)) (λ _. tt)
-dimension-found P h other = tt
-
-if-dimension : (P : Length → Type 0) → ((n : ℤ) (u : LengthUnit) → P (dimension n u))
-    → (c : Component)
-    → IfSome (length_of c) P
-if-dimension P h (preserved t) = dimension-found P h t.token_type
-if-dimension P h other = tt
 
 -- ---- `contain`
 
@@ -185,15 +155,12 @@ of-one : (form : Form) (P : Value → Type 0) → OfForm form P → (c : Compone
     → IfSome (value_of_one form c) P
 of-one (one_of keywords) P h c = if-map (λ k. keyword_value k) P (keyword_among keywords c)
     (if-keyword keywords (λ k. P (keyword_value k)) h c)
-of-one a_length P h c = if-map (λ l. length_value l) P (not_negative (length_of c))
-    (if-not_negative (λ l. P (length_value l)) (length_of c)
-    (if-dimension (λ l. is_negative l ≡ false → P (length_value l)) h c))
-of-one a_length_or_percentage P h c = if-map (λ l. length_value l) P
-    (not_negative (length_or_percentage_of c))
-    (if-not_negative (λ l. P (length_value l)) (length_or_percentage_of c)
-    (if-all _ (length_or_percentage_of c) h))
-of-one any_length_or_percentage P h c = if-map (λ l. length_value l) P (length_or_percentage_of c)
-    (if-all (λ l. P (length_value l)) (length_or_percentage_of c) h)
+of-one a_length P h c = if-map (λ l. length_value l) P (length_from_zero_of false c)
+    (if-all (λ l. P (length_value l)) (length_from_zero_of false c) h)
+of-one a_length_or_percentage P h c = if-map (λ l. length_value l) P (length_from_zero_of true c)
+    (if-all (λ l. P (length_value l)) (length_from_zero_of true c) h)
+of-one any_length_or_percentage P h c = if-map (λ l. length_value l) P (any_length_of true c)
+    (if-all (λ l. P (length_value l)) (any_length_of true c) h)
 of-one a_number P h c = if-map (λ n. number_value n) P _
     (if-test (int_le (pos 0)) (λ n. P (number_value n))
     (option_map (λ n. n.millionths) (number_of c))

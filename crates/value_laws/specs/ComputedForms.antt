@@ -1,9 +1,8 @@
 -- Which computed values each property has (CSS Cascade 4, section 4.4; the modules of each property).
 -- How large a number, a percentage or an integer may be is not said here.
-use Rattle.std.specs.Prelude.{◌≡◌, ℕ, ℤ, pos, neg_ℤ, ◌≤ℤ◌, ◌&&◌, ◌||◌, not, nat_le, int_le, List, [], ◌∷◌, Bool, true, false}
+use Rattle.std.specs.Prelude.{◌≡◌, ℕ, ℤ, pos, ◌&&◌, ◌||◌, not, nat_le, int_le, List, [], ◌∷◌, Bool, true, false}
 use Rattle.std.specs.List.{list_any, list_all}
 use Rattle.std.specs.Str.{bytes_eq, str_eq_ignore_ascii_case}
-use Rattle.units64.specs.declared.constants.TheConstants.{MAX_UNITS}
 use Rattle.css_model.specs.Classes.{Text}
 use Rattle.value_model.specs.declared.color.Color.TheVariants.{CurrentColor, Rgba as AnRgba}
 use Rattle.value_model.specs.declared.color.Rgba.{Rgba}
@@ -12,12 +11,14 @@ use Rattle.value_model.specs.declared.keyword.Keyword.TheVariants.{Auto, None as
 use Rattle.value_model.specs.declared.length_unit.Bases.{Bases}
 use Rattle.value_model.specs.declared.prop.Prop.{Prop}
 use Rattle.value_model.specs.declared.prop.Prop.TheVariants.{Display, Width, Height, MinWidth, MinHeight, MaxWidth, MaxHeight, MarginTop, MarginRight, MarginBottom, MarginLeft, PaddingTop, PaddingRight, PaddingBottom, PaddingLeft, BorderTopWidth, BorderRightWidth, BorderBottomWidth, BorderLeftWidth, BorderTopStyle, BorderRightStyle, BorderBottomStyle, BorderLeftStyle, BorderTopColor, BorderRightColor, BorderBottomColor, BorderLeftColor, BoxSizing, FontSize, LineHeight, Color, BackgroundColor, TextAlign, WhiteSpace, Overflow, Contain, ContainerType, ContainerName, Visibility, Opacity, FontStyle, FontWeight, ZIndex, TextDecorationLine, PointerEvents}
+use Rattle.value_model.specs.Calculations.{leaf, in_units}
 use Rattle.value_model.specs.Computing.{computed}
 use Rattle.value_model.specs.Forms.{is_between, no_container_names}
 use Rattle.value_model.specs.Keywords.{keyword_text}
-use Rattle.value_model.specs.Lengths.{in_units, in_percent}
 use Rattle.value_model.specs.Properties.{line_styles}
 use Rattle.value_model.specs.Values.{Value, color_value, Final, keyword, length, number, alpha, integer, color, containment, names}
+use Rattle.calculations_laws.specs.ComputedLengths
+use Rattle.calculations_laws.specs.ComputedLengths.{is_units_from}
 
 -- ---- one kind of value
 
@@ -29,25 +30,16 @@ abbrev pub is_one_of : List Keyword → Final → Bool
 is_one_of keywords (keyword k) = is_among keywords k
 is_one_of keywords v = false
 
--- from this number of units to the largest
-abbrev pub is_units_from : ℤ → ℤ → Bool
-is_units_from least n = int_le least n && int_le n MAX_UNITS
-
 -- a length without a percentage, and not below 0
 abbrev pub is_absolute_length : Final → Bool
-is_absolute_length (length (in_units n)) = is_units_from (pos 0) n
+is_absolute_length (length (leaf (in_units n))) = is_units_from (pos 0) n
 is_absolute_length v = false
 
--- a length or a percentage that is not below 0
+-- a length or a percentage, perhaps calculated. It may be below 0, since what a calculation gives is cut
+-- at 0 only where it is used (CSS Values 4, section 10.12)
 abbrev pub is_length : Final → Bool
-is_length (length (in_percent n)) = int_le (pos 0) n
-is_length v = is_absolute_length v
-
--- a length or a percentage
-abbrev pub is_any_length : Final → Bool
-is_any_length (length (in_units n)) = is_units_from (neg_ℤ MAX_UNITS) n
-is_any_length (length (in_percent n)) = true
-is_any_length v = false
+is_length (length l) = ComputedLengths.is_length l
+is_length v = false
 
 -- a number that is not below 0
 abbrev pub is_number : Final → Bool
@@ -106,10 +98,10 @@ is_computed MinWidth v = is_length v
 is_computed MinHeight v = is_length v
 is_computed MaxWidth v = is_one_of (NoneKeyword ∷ []) v || is_length v
 is_computed MaxHeight v = is_one_of (NoneKeyword ∷ []) v || is_length v
-is_computed MarginTop v = is_one_of (Auto ∷ []) v || is_any_length v
-is_computed MarginRight v = is_one_of (Auto ∷ []) v || is_any_length v
-is_computed MarginBottom v = is_one_of (Auto ∷ []) v || is_any_length v
-is_computed MarginLeft v = is_one_of (Auto ∷ []) v || is_any_length v
+is_computed MarginTop v = is_one_of (Auto ∷ []) v || is_length v
+is_computed MarginRight v = is_one_of (Auto ∷ []) v || is_length v
+is_computed MarginBottom v = is_one_of (Auto ∷ []) v || is_length v
+is_computed MarginLeft v = is_one_of (Auto ∷ []) v || is_length v
 is_computed PaddingTop v = is_length v
 is_computed PaddingRight v = is_length v
 is_computed PaddingBottom v = is_length v
@@ -147,15 +139,6 @@ is_computed TextDecorationLine v =
 is_computed PointerEvents v = is_one_of (Auto ∷ NoneKeyword ∷ []) v
 
 -- ---- what is computed
-
--- nothing that lengths refer to is below 0
-pub record NotNegative (b : Bases) : Type 0 where
-  pub em : pos 0 ≤ℤ b.em
-  pub rem : pos 0 ≤ℤ b.rem
-  pub vw : pos 0 ≤ℤ b.vw
-  pub vh : pos 0 ≤ℤ b.vh
-  pub cqw : pos 0 ≤ℤ b.cqw
-  pub cqh : pos 0 ≤ℤ b.cqh
 
 -- `currentcolor` for `color`, which is `inherit` and is not computed (CSS Color 4, section 6.4)
 abbrev pub is_inherited_color : Prop → Value → Bool

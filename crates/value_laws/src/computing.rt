@@ -4,7 +4,7 @@ ghost use Rattle.css_model.specs.Components.{Components};
 ghost use Rattle.std.specs.List.{All};
 ghost use Rattle.std.specs.Option.{IfSome};
 ghost use Rattle.std.specs.Prelude.{◌≡◌, Some, true, ℤ};
-ghost use Rattle.value_laws.specs.ComputedForms.{Computes, NotNegative, is_computed};
+ghost use Rattle.value_laws.specs.ComputedForms.{Computes, is_computed};
 ghost use Rattle.value_model.specs.Grammar.{value_of};
 ghost use Rattle.value_model.specs.Properties.{pixels, property};
 ghost use Rattle.value_model.specs.Shorthands.{Shorthand, expansion_of, shorthand_of_name};
@@ -16,17 +16,18 @@ ghost use Rattle.value_model.specs.declared.prop.Prop.TheVariants.{BorderBottomW
 
 /// Each value that the grammar of a property takes computes to one of its computed values.
 ///
-/// No base is below 0, since a positive length in a unit of such a base would be below 0 too; the font
-/// size of the parent may be. A CSS-wide keyword computes here to the initial value.
+/// No base has to be above 0, nor has the font size of the parent: sizes, margins and paddings may compute
+/// to a length below 0, and all other lengths are cut at 0. A CSS-wide keyword computes here to the initial
+/// value.
 pub fn takes_what_the_grammar_takes()
     ensures { (p : Prop) (cs : Components) (v : Value) (b : Bases) (parent_font : ℤ)
-        → NotNegative b → value_of p cs ≡ Some v → Computes b parent_font p v }
+        → value_of p cs ≡ Some v → Computes b parent_font p v }
 {}
 
 /// Each value that a shorthand gives to a property does too.
 pub fn takes_what_a_shorthand_sets()
     ensures { (name : Text) (s : Shorthand) (cs : Components) (b : Bases) (parent_font : ℤ)
-        → NotNegative b → shorthand_of_name name ≡ Some s
+        → shorthand_of_name name ≡ Some s
         → IfSome (expansion_of s cs) (λ ls. All (λ l. Computes b parent_font l.0 l.1) ls) }
 {}
 

@@ -1,15 +1,15 @@
 //! Computed values, and the properties that have them: functions that do nothing, whose clauses the
 //! prover computes.
 ghost use Rattle.std.specs.Prelude.{codes, negsuc, pos, ◌++◌, ◌≡◌, ◌∷◌, false, true, []};
-ghost use Rattle.value_laws.specs.ComputedForms.{NotNegative, is_computed};
-ghost use Rattle.value_laws.specs.inner.Examples.{border_colors, border_styles, margins, no_bases, not_computed, padding_of, percent, properties_with, rgba_color, units, with_colors, with_lengths, with_percentages};
+ghost use Rattle.value_laws.specs.inner.Examples.{a_pixel, an_em, bases_of_zero, below_zero, border_colors, border_styles, margins, negative_bases, not_computed, percent, properties_with, rgba_color, ten_percent, units, with_colors, with_lengths, with_percentages};
+ghost use Rattle.value_model.specs.Calculations.{calculation, divided, in_units, largest, leaf, no_calculations, scaled, smallest, sum};
 ghost use Rattle.value_model.specs.Colors.{rgba};
+ghost use Rattle.value_model.specs.Computing.{computed};
 ghost use Rattle.value_model.specs.Forms.{contained};
-ghost use Rattle.value_model.specs.Values.{alpha, color, color_value, containment, integer, keyword, keyword_value, names, number, wide_keyword};
+ghost use Rattle.value_model.specs.Values.{alpha, color, color_value, containment, integer, keyword, keyword_value, length, names, number, wide_keyword};
 ghost use Rattle.value_model.specs.declared.color.Color.TheVariants.{CurrentColor, Rgba};
 ghost use Rattle.value_model.specs.declared.keyword.Keyword.TheVariants.{Auto, Block, Bold, BorderBox, Center, Collapse, ContentBox, Dashed, Dotted, Double, End, FlowRoot, Groove, Hidden, Inline, InlineBlock, InlineSize, Inset, Italic, Left, LineThrough, Medium, None as NoneKeyword, Normal, Nowrap, Oblique, Outset, Overline, Ridge, Right, Scroll, Size, Solid, Start, Thick, Thin, Underline, Visible};
-ghost use Rattle.value_model.specs.declared.length_unit.LengthBase.TheVariants.{Cqh, Cqmax, Cqmin, Cqw, Em, Pixel, Rem, Vh, Vmax, Vmin, Vw};
-ghost use Rattle.value_model.specs.declared.prop.Prop.TheVariants.{BackgroundColor, BoxSizing, Color, Contain, ContainerName, ContainerType, Display, FontStyle, FontWeight, Height, LineHeight, MaxHeight, MaxWidth, Opacity, Overflow, PaddingTop, PointerEvents, TextAlign, TextDecorationLine, Visibility, WhiteSpace, Width, ZIndex};
+ghost use Rattle.value_model.specs.declared.prop.Prop.TheVariants.{BackgroundColor, BorderTopWidth, BoxSizing, Color, Contain, ContainerName, ContainerType, Display, FontSize, FontStyle, FontWeight, Height, LineHeight, MarginTop, MaxHeight, MaxWidth, Opacity, Overflow, PaddingTop, PointerEvents, TextAlign, TextDecorationLine, Visibility, WhiteSpace, Width, ZIndex};
 ghost use Rattle.value_model.specs.declared.wide_keyword.WideKeyword.TheVariants.{Inherit};
 
 /// Keywords of boxes.
@@ -67,14 +67,14 @@ pub fn keywords_of_texts()
     ensures line_through { properties_with (keyword LineThrough) ≡ TextDecorationLine ∷ [] }
 {}
 
-/// Lengths in units: those of margins may be negative. The largest is 2^30.
+/// Lengths in units: sizes, margins and paddings may be calculated, and so negative. The largest is 2^30.
 pub fn lengths()
     ensures zero { properties_with (units (pos 0)) ≡ with_lengths }
     ensures one { properties_with (units (pos 1)) ≡ with_lengths }
     ensures largest { properties_with (units (pos 1073741824)) ≡ with_lengths }
     ensures too_large { properties_with (units (pos 1073741825)) ≡ [] }
-    ensures below_zero { properties_with (units (negsuc 0)) ≡ margins }
-    ensures least { properties_with (units (negsuc 1073741823)) ≡ margins }
+    ensures below_zero { properties_with (units (negsuc 0)) ≡ with_percentages }
+    ensures least { properties_with (units (negsuc 1073741823)) ≡ with_percentages }
     ensures too_small { properties_with (units (negsuc 1073741824)) ≡ [] }
 {}
 
@@ -82,7 +82,22 @@ pub fn lengths()
 pub fn percentages()
     ensures zero { properties_with (percent (pos 0)) ≡ with_percentages }
     ensures hundred { properties_with (percent (pos 100000000)) ≡ with_percentages }
-    ensures below_zero { properties_with (percent (negsuc 0)) ≡ margins }
+    ensures below_zero { properties_with (percent (negsuc 0)) ≡ with_percentages }
+{}
+
+/// Calculations are of pixels and percentages, with at least one percentage.
+pub fn calculations()
+    ensures sum { properties_with (length (sum a_pixel ten_percent)) ≡ with_percentages }
+    ensures scaled { properties_with (length (scaled ten_percent (negsuc 0))) ≡ with_percentages }
+    ensures divided { properties_with (length (divided ten_percent (pos 1))) ≡ with_percentages }
+    ensures smallest { properties_with (length (smallest a_pixel (calculation ten_percent
+        no_calculations))) ≡ with_percentages }
+    ensures largest { properties_with (length (largest a_pixel (calculation ten_percent
+        no_calculations))) ≡ with_percentages }
+    ensures pixel { properties_with (length a_pixel) ≡ [] }
+    ensures pixels { properties_with (length (sum a_pixel a_pixel)) ≡ [] }
+    ensures with_units { properties_with (length (sum (leaf (in_units (pos 64))) ten_percent)) ≡ [] }
+    ensures scaled_units { properties_with (length (scaled (leaf (in_units (pos 64))) (pos 1))) ≡ [] }
 {}
 
 /// Numbers, and opacities from 0 to 1.
@@ -150,22 +165,19 @@ pub fn inherited_colors()
     ensures auto { not_computed (keyword_value Auto) ≡ [] }
 {}
 
-/// Bases that are 0 are not negative.
-pub fn bases_of_zero()
-    ensures { NotNegative no_bases }
+/// A calculation below 0 stays so for a padding, a size and a margin, and gives a border no width, a font no
+/// size and a line no height.
+pub fn calculations_below_zero()
+    ensures padding { computed PaddingTop below_zero bases_of_zero (pos 0) ≡ units (negsuc 63) }
+    ensures width { computed Width below_zero bases_of_zero (pos 0) ≡ units (negsuc 63) }
+    ensures margin { computed MarginTop below_zero bases_of_zero (pos 0) ≡ units (negsuc 63) }
+    ensures border { computed BorderTopWidth below_zero bases_of_zero (pos 0) ≡ units (pos 0) }
+    ensures font_size { computed FontSize below_zero bases_of_zero (pos 0) ≡ units (pos 0) }
+    ensures line_height { computed LineHeight below_zero bases_of_zero (pos 0) ≡ units (pos 0) }
 {}
 
-/// Where a base is below 0, a positive length may compute to one that a padding may not have.
-pub fn negative_paddings()
-    ensures pixel { is_computed PaddingTop (padding_of Pixel) ≡ true }
-    ensures em { is_computed PaddingTop (padding_of Em) ≡ false }
-    ensures rem { is_computed PaddingTop (padding_of Rem) ≡ false }
-    ensures vw { is_computed PaddingTop (padding_of Vw) ≡ false }
-    ensures vh { is_computed PaddingTop (padding_of Vh) ≡ false }
-    ensures vmin { is_computed PaddingTop (padding_of Vmin) ≡ false }
-    ensures vmax { is_computed PaddingTop (padding_of Vmax) ≡ false }
-    ensures cqw { is_computed PaddingTop (padding_of Cqw) ≡ false }
-    ensures cqh { is_computed PaddingTop (padding_of Cqh) ≡ false }
-    ensures cqmin { is_computed PaddingTop (padding_of Cqmin) ≡ false }
-    ensures cqmax { is_computed PaddingTop (padding_of Cqmax) ≡ false }
+/// So does a positive length in a unit of a base that is below 0.
+pub fn bases_below_zero()
+    ensures padding { computed PaddingTop an_em negative_bases (pos 0) ≡ units (negsuc 63) }
+    ensures border { computed BorderTopWidth an_em negative_bases (pos 0) ≡ units (pos 0) }
 {}

@@ -6,7 +6,8 @@ use Rattle.value_model.specs.declared.keyword.Keyword.TheVariants.{Thin, Medium,
 use Rattle.value_model.specs.declared.length_unit.Bases.{Bases}
 use Rattle.value_model.specs.declared.prop.Prop.{Prop}
 use Rattle.value_model.specs.declared.prop.Prop.TheVariants.{MinWidth, MinHeight, BorderTopWidth, BorderRightWidth, BorderBottomWidth, BorderLeftWidth, FontSize, LineHeight, TextAlign, FontWeight}
-use Rattle.value_model.specs.Lengths.{ComputedLength, in_units, Length, computed_length, used_length, in_clamped_units}
+use Rattle.value_model.specs.Calculations.{Calculation, leaf, in_units, computed_length, units_from_zero}
+use Rattle.value_model.specs.Lengths.{Length}
 use Rattle.value_model.specs.Properties.{property, pixels}
 use Rattle.value_model.specs.Values.{Value, wide_keyword, keyword_value, length_value, number_value, integer_value, color_value, containment_value, names_value, Final, keyword, length, number, alpha, integer, color, containment, names}
 
@@ -45,14 +46,19 @@ computed_keyword p k = keyword k
 -- ---- lengths
 
 -- where percentages refer to this base: in units, and not below 0
-abbrev pub absolute_length : ℤ → ComputedLength → Final
-absolute_length base l = length (in_units (int_max (pos 0) (in_clamped_units (used_length l base))))
+abbrev pub absolute_length : Bases → ℤ → Calculation Length → Final
+absolute_length b base l = length (leaf (in_units (units_from_zero b base l)))
 
 -- a percentage of a font size is one of the parent's (CSS Fonts 4, section 2.5), and one of a line height
--- is one of the element's own font size (CSS 2.1, section 10.8.1)
-abbrev pub computed_length_of : Prop → Bases → ℤ → Length → Final
-computed_length_of FontSize b parent_font l = absolute_length parent_font (computed_length b l)
-computed_length_of LineHeight b parent_font l = absolute_length b.em (computed_length b l)
+-- is one of the element's own font size (CSS 2.1, section 10.8.1); a width of a border has none. What a
+-- calculation gives below 0 is 0 for these
+abbrev pub computed_length_of : Prop → Bases → ℤ → Calculation Length → Final
+computed_length_of FontSize b parent_font l = absolute_length b parent_font l
+computed_length_of LineHeight b parent_font l = absolute_length b b.em l
+computed_length_of BorderTopWidth b parent_font l = absolute_length b (pos 0) l
+computed_length_of BorderRightWidth b parent_font l = absolute_length b (pos 0) l
+computed_length_of BorderBottomWidth b parent_font l = absolute_length b (pos 0) l
+computed_length_of BorderLeftWidth b parent_font l = absolute_length b (pos 0) l
 computed_length_of p b parent_font l = length (computed_length b l)
 
 -- ---- numbers

@@ -15,10 +15,11 @@ use Rattle.value_model.specs.declared.containment.Containment.{Containment}
 use Rattle.value_model.specs.declared.keyword.Keyword.{Keyword}
 use Rattle.value_model.specs.Colors.{color_of}
 use Rattle.value_model.specs.Keywords.{keyword_text}
-use Rattle.value_model.specs.Lengths.{Length, length_of, length_or_percentage_of, is_negative}
+use Rattle.value_model.specs.CalculationGrammar.{any_length_of, length_from_zero_of}
 use Rattle.value_model.specs.Values.{Value, keyword_value, length_value, number_value, integer_value, color_value, containment_value, names_value}
 
--- what a grammar may name; without `any` a negative number is not allowed
+-- what a grammar may name; without `any` a number that is written is not negative, and a calculation
+-- may be
 pub data Form : Type 0 where
   one_of : List Keyword → Form
   a_length : Form
@@ -40,10 +41,6 @@ pub data Form : Type 0 where
 abbrev pub keyword_among : List Keyword → Component → Option Keyword
 keyword_among keywords c =
     option_and_then (λ name. find (λ k. str_eq_ignore_ascii_case name (keyword_text k)) keywords) (ident_of c)
-
--- a length, where it is not negative
-abbrev pub not_negative : Option Length → Option Length
-not_negative length = option_and_then (λ l. if is_negative l then None else Some l) length
 
 abbrev pub number_of_type : TokenType → Option NumberValue
 number_of_type (Number n) = Some n
@@ -69,10 +66,10 @@ if_it test found = option_and_then (λ x. if test x then Some x else None) found
 -- the value of a form that is one component value
 abbrev pub value_of_one : Form → Component → Option Value
 value_of_one (one_of keywords) c = option_map (λ k. keyword_value k) (keyword_among keywords c)
-value_of_one a_length c = option_map (λ l. length_value l) (not_negative (length_of c))
+value_of_one a_length c = option_map (λ l. length_value l) (length_from_zero_of false c)
 value_of_one a_length_or_percentage c =
-    option_map (λ l. length_value l) (not_negative (length_or_percentage_of c))
-value_of_one any_length_or_percentage c = option_map (λ l. length_value l) (length_or_percentage_of c)
+    option_map (λ l. length_value l) (length_from_zero_of true c)
+value_of_one any_length_or_percentage c = option_map (λ l. length_value l) (any_length_of true c)
 value_of_one a_number c =
     option_map (λ n. number_value n) (if_it (int_le (pos 0)) (option_map (λ n. n.millionths) (number_of c)))
 value_of_one any_number c = option_map (λ n. number_value n.millionths) (number_of c)

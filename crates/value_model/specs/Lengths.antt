@@ -11,15 +11,14 @@ use Rattle.units64.specs.declared.constants.TheConstants.{UNITS_PER_PIXEL, MILLI
 use Rattle.css_model.specs.declared.token.TokenType.{TokenType}
 use Rattle.css_model.specs.declared.token.TokenType.TheVariants.{Number, Percentage, Dimension}
 use Rattle.css_model.specs.Classes.{Text}
-use Rattle.css_model.specs.Components.{Component, preserved, Components}
+use Rattle.css_model.specs.Components.{Component, preserved}
 use Rattle.value_model.specs.declared.length_unit.Bases.{Bases}
 use Rattle.value_model.specs.declared.length_unit.LengthUnit.{LengthUnit}
 use Rattle.value_model.specs.declared.unit_set.UnitSet.{UnitSet}
-use Rattle.value_model.specs.Words.{only_of, words_of}
 use Rattle.value_model.specs.declared.length_unit.LengthBase.{LengthBase}
 use Rattle.value_model.specs.declared.length_unit.LengthBase.TheVariants.{Pixel, Em, Rem, Vw, Vh, Vmin, Vmax, Cqw, Cqh, Cqmin, Cqmax}
 
--- a number of millionths of a unit, or of a percent
+-- a literal: a number of millionths of a unit, or of a percent
 pub data Length : Type 0 where
   dimension : (millionths : ℤ) → LengthUnit → Length
   percentage : (millionths : ℤ) → Length
@@ -73,15 +72,14 @@ abbrev pub length_or_percentage_of : Component → Option Length
 length_or_percentage_of (preserved t) = length_or_percentage_of_type t.token_type
 length_or_percentage_of other = None
 
--- the length that is all there is, or with percentages the length or percentage
-abbrev pub length_in : Bool → Components → Option Length
-length_in with_percentages cs = option_and_then
-    (λ c. if with_percentages then length_or_percentage_of c else length_of c) (only_of (words_of cs))
-
 -- below 0, as it is written
 abbrev pub is_negative : Length → Bool
 is_negative (dimension millionths u) = int_lt millionths (pos 0)
 is_negative (percentage millionths) = int_lt millionths (pos 0)
+
+-- a length, where it is not negative
+abbrev pub not_negative : Option Length → Option Length
+not_negative length = option_and_then (λ l. if is_negative l then None else Some l) length
 
 -- ---- values
 
@@ -111,30 +109,14 @@ abbrev pub length_value : Bases → Length → ℤ
 length_value b (dimension millionths u) = dimension_value b millionths u
 length_value b (percentage millionths) = pos 0
 
--- ---- computed values
-
--- a length as it is computed: in units of 1/64 pixel, or in millionths of a percent
-pub data ComputedLength : Type 0 where
-  in_units : ℤ → ComputedLength
-  in_percent : ℤ → ComputedLength
-
 -- a number of millionths of a pixel, in units
 abbrev pub in_clamped_units : ℤ → ℤ
 in_clamped_units millionths = clamped_units (units_of millionths)
-
-abbrev pub computed_length : Bases → Length → ComputedLength
-computed_length b (dimension millionths u) = in_units (in_clamped_units (dimension_value b millionths u))
-computed_length b (percentage millionths) = in_percent millionths
 
 -- a percentage of a base in units, in millionths of a pixel: one exact quotient, truncated
 abbrev pub percentage_value : ℤ → ℤ → ℤ
 percentage_value millionths base = clamped_millionths
     (int_div (millionths *ℤ millionths_of base) (pos 100 *ℤ MILLIONTHS_PER_PIXEL))
-
--- what a computed length is where percentages refer to this base, in millionths of a pixel
-abbrev pub used_length : ComputedLength → ℤ → ℤ
-used_length (in_units n) base = clamped_millionths (millionths_of n)
-used_length (in_percent millionths) base = percentage_value millionths base
 
 -- ---- what a length refers to
 

@@ -1,5 +1,8 @@
 pub mod Words
 pub mod Lengths
+pub mod Calculations
+pub mod CalculationGrammar
+pub mod LengthCode
 pub mod Colors
 pub mod Keywords
 pub mod Values

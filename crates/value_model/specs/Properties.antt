@@ -10,7 +10,7 @@ use Rattle.value_model.specs.declared.prop.Prop.{Prop}
 use Rattle.value_model.specs.declared.prop.Prop.TheVariants.{Display, Width, Height, MinWidth, MinHeight, MaxWidth, MaxHeight, MarginTop, MarginRight, MarginBottom, MarginLeft, PaddingTop, PaddingRight, PaddingBottom, PaddingLeft, BorderTopWidth, BorderRightWidth, BorderBottomWidth, BorderLeftWidth, BorderTopStyle, BorderRightStyle, BorderBottomStyle, BorderLeftStyle, BorderTopColor, BorderRightColor, BorderBottomColor, BorderLeftColor, BoxSizing, FontSize, LineHeight, Color, BackgroundColor, TextAlign, WhiteSpace, Overflow, Contain, ContainerType, ContainerName, Visibility, Opacity, FontStyle, FontWeight, ZIndex, TextDecorationLine, PointerEvents}
 use Rattle.value_model.specs.Colors.{rgba}
 use Rattle.value_model.specs.Forms.{Form, one_of, a_length, a_length_or_percentage, any_length_or_percentage, a_number, any_number, an_integer_between, any_integer, a_color, a_containment, container_names, nothing_contained}
-use Rattle.value_model.specs.Lengths.{in_units}
+use Rattle.value_model.specs.Calculations.{in_units, leaf}
 use Rattle.value_model.specs.Values.{Final, keyword, length, alpha, integer, color, containment, names}
 
 -- what there is to know of a property
@@ -30,7 +30,7 @@ not_inherited name forms initial =
 
 -- a length of whole pixels
 abbrev pub pixels : ℕ → Final
-pixels n = length (in_units (UNITS_PER_PIXEL *ℤ pos n))
+pixels n = length (leaf (in_units (UNITS_PER_PIXEL *ℤ pos n)))
 
 -- the styles of a border (CSS Backgrounds 3, section 3.2)
 abbrev pub line_styles : List Keyword

@@ -5,14 +5,15 @@ use Rattle.value_model.specs.declared.color.Color.{Color}
 use Rattle.value_model.specs.declared.containment.Containment.{Containment}
 use Rattle.value_model.specs.declared.keyword.Keyword.{Keyword}
 use Rattle.value_model.specs.declared.wide_keyword.WideKeyword.{WideKeyword}
-use Rattle.value_model.specs.Lengths.{Length, ComputedLength}
+use Rattle.value_model.specs.Calculations.{Calculation, ComputedLength}
+use Rattle.value_model.specs.Lengths.{Length}
 
 -- the value of a declaration
 pub data Value : Type 0 where
   wide_keyword : WideKeyword → Value
   keyword_value : Keyword → Value
-  -- a length or a percentage
-  length_value : Length → Value
+  -- a length or a percentage, literal or calculated
+  length_value : Calculation Length → Value
   -- in millionths
   number_value : ℤ → Value
   integer_value : ℤ → Value

@@ -1,2 +1,3 @@
 -- Words of the examples.
 pub mod Examples
+pub mod CalculationExamples

@@ -2,6 +2,7 @@
 //! the prover computes.
 
 pub mod boxes;
+pub mod calculations;
 pub mod colors;
 pub mod containers;
 pub mod grammar;

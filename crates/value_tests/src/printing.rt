@@ -57,10 +57,11 @@ pub fn print_final(alloc: Global, value: &Final, printed: &mut String) -> Result
     match value {
         Final::Keyword(keyword) => printed.push_str(keyword_text(*keyword)),
         Final::Length(Computed::Units(length)) => print_number(alloc, length.get() as i64, printed),
-        Final::Length(Computed::Percent(number)) => {
+        Final::Length(Computed::Pct(number)) => {
             printed.push_str("pct:")?;
             print_number(alloc, number.get(), printed)
         }
+        Final::Length(_) => printed.push_str("calculated"),
         Final::Number(number) => {
             printed.push_str("num:")?;
             print_number(alloc, number.get(), printed)

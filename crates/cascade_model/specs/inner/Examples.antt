@@ -5,7 +5,7 @@ use Rattle.page_model.specs.Document.{Node, element, text, no_nodes, node}
 use Rattle.rules_model.specs.Sheets.{style_rules_of}
 use Rattle.value_model.specs.declared.prop.Prop.{Prop}
 use Rattle.value_model.specs.Properties.{is_same_prop, pixels, properties, property}
-use Rattle.value_model.specs.Lengths.{in_units}
+use Rattle.value_model.specs.Calculations.{in_units, leaf as literal}
 use Rattle.value_model.specs.Values.{Final, length as length_value}
 use Rattle.cascade_model.specs.declared.origin.Origin.TheVariants.{UserAgent}
 use Rattle.cascade_model.specs.Books.{author_rules, book_rules}
@@ -59,7 +59,7 @@ of_grandchild page p = value_in (style_of_grandchild page) p
 
 -- a length in units
 abbrev pub units : ℕ → Final
-units n = length_value (in_units (pos n))
+units n = length_value (literal (in_units (pos n)))
 
 -- ---- whole styles
 

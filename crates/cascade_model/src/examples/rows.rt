@@ -2,7 +2,7 @@
 ghost use Rattle.cascade_model.specs.inner.Examples.{attribute, leaf, of_child, of_root, page_with, parent, units};
 ghost use Rattle.std.specs.Prelude.{[], codes, pos, ◌∷◌, ◌≡◌};
 ghost use Rattle.value_model.specs.Colors.{rgba};
-ghost use Rattle.value_model.specs.Lengths.{in_percent};
+ghost use Rattle.value_model.specs.Calculations.{in_percent, leaf as literal};
 ghost use Rattle.value_model.specs.Values.{color, integer, length};
 ghost use Rattle.value_model.specs.declared.color.Color.TheVariants.{CurrentColor, Rgba};
 ghost use Rattle.value_model.specs.declared.prop.Prop.TheVariants.{BorderLeftColor, BorderTopWidth, Color, FontSize, FontWeight, MarginLeft, MarginTop, Width};
@@ -11,7 +11,7 @@ ghost use Rattle.value_model.specs.declared.prop.Prop.TheVariants.{BorderLeftCol
 #[tactic(auto, unfolding(css_model::specs::inner::Nesting::levels_of, css_model::specs::inner::Pieces::pieces_after, css_model::specs::inner::Fronts::parts_after))]
 pub fn heading()
     ensures width { of_root (page_with (codes "h1{display:block;font-size:2em;margin-top:.67em}h1,b{font-weight:bold}") (codes "") (leaf 0 (codes "h1") (attribute (codes "style") (codes "color:RED;border:thin solid;width:10%") ∷ []))) Width
-        ≡ length (in_percent (pos 10000000)) }
+        ≡ length (literal (in_percent (pos 10000000))) }
     ensures margin { of_root (page_with (codes "h1{display:block;font-size:2em;margin-top:.67em}h1,b{font-weight:bold}") (codes "") (leaf 0 (codes "h1") (attribute (codes "style") (codes "color:RED;border:thin solid;width:10%") ∷ []))) MarginTop
         ≡ units 1372 }
     ensures border_width { of_root (page_with (codes "h1{display:block;font-size:2em;margin-top:.67em}h1,b{font-weight:bold}") (codes "") (leaf 0 (codes "h1") (attribute (codes "style") (codes "color:RED;border:thin solid;width:10%") ∷ []))) BorderTopWidth

@@ -10,6 +10,7 @@ use Rattle.conditions_model.specs.declared.tri.Tri.{Tri}
 use Rattle.conditions_model.specs.ConditionTrees.{ConditionTree, feature, ConditionTrees, no_conditions, condition}
 use Rattle.conditions_model.specs.Conditions.{condition_of, is_round_type}
 use Rattle.value_model.specs.declared.length_unit.LengthUnit.{LengthUnit}
+use Rattle.value_model.specs.Calculations.{leaf}
 use Rattle.value_model.specs.Lengths.{dimension, unit}
 use Rattle.conditions_model.specs.MediaQueries.{MediaQuery, media_matches, media_names, queries_of, query_of, query_value}
 use Rattle.conditions_model.specs.SizeFeatures.{Bound, FeatureValue, length_value, SizeFeature, boolean, feature_of, only_component, ratio_value}
@@ -62,7 +63,7 @@ bound comparison value = record { comparison = comparison; value = value }
 -- ---- lengths
 
 abbrev pub length : ℤ → LengthUnit → FeatureValue
-length millionths unit = length_value (dimension millionths unit)
+length millionths unit = length_value (leaf (dimension millionths unit))
 
 -- a length in pixels
 abbrev pub px : ℕ → FeatureValue

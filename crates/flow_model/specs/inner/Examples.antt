@@ -5,7 +5,7 @@ use Rattle.value_model.specs.declared.keyword.Keyword.{Keyword}
 use Rattle.value_model.specs.declared.prop.Prop.{Prop}
 use Rattle.value_model.specs.declared.prop.Prop.TheVariants.{Display, BorderTopWidth, BorderRightWidth, BorderBottomWidth, BorderLeftWidth}
 use Rattle.value_model.specs.Forms.{nothing_contained}
-use Rattle.value_model.specs.Lengths.{in_units, in_percent}
+use Rattle.value_model.specs.Calculations.{in_units, in_percent, leaf}
 use Rattle.value_model.specs.Properties.{property, is_same_prop}
 use Rattle.value_model.specs.Values.{Final, keyword, length}
 use Rattle.flow_model.specs.declared.box_kind.BoxKind.TheVariants.{Block}
@@ -30,10 +30,10 @@ most = pos 1073741824
 -- ---- computed values
 
 abbrev pub units : ℤ → Final
-units n = length (in_units n)
+units n = length (leaf (in_units n))
 
 abbrev pub percent : ℤ → Final
-percent n = length (in_percent (n *ℤ pos 1000000))
+percent n = length (leaf (in_percent (n *ℤ pos 1000000)))
 
 -- no borders, and all else initial
 abbrev pub plain : Values

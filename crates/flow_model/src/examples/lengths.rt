@@ -3,7 +3,7 @@ ghost use Rattle.flow_model.specs.inner.Examples.{kw, minus, most, percent, unit
 ghost use Rattle.flow_model.specs.UsedLengths.{content_size, fixed, has_percentage, is_border_box, or_zero, used};
 ghost use Rattle.std.specs.Prelude.{◌≡◌, None, Some, false, pos, true};
 ghost use Rattle.value_model.specs.declared.keyword.Keyword.TheVariants as keywords;
-ghost use Rattle.value_model.specs.Lengths.{in_percent, in_units};
+ghost use Rattle.value_model.specs.Calculations.{in_percent, in_units, leaf};
 ghost use Rattle.value_model.specs.Values.{integer};
 
 /// A percentage refers to its base, and is truncated towards zero; a keyword is no length.
@@ -23,8 +23,8 @@ pub fn fixed_lengths()
     ensures percentage { fixed (percent (pos 50)) ≡ None }
     ensures no_percent { fixed (percent (pos 0)) ≡ None }
     ensures keyword { fixed (kw keywords.Auto) ≡ None }
-    ensures has { has_percentage (in_percent (pos 0)) ≡ true }
-    ensures has_not { has_percentage (in_units (pos 0)) ≡ false }
+    ensures has { has_percentage (leaf (in_percent (pos 0))) ≡ true }
+    ensures has_not { has_percentage (leaf (in_units (pos 0))) ≡ false }
     ensures or_zero { or_zero (Some (minus 3)) ≡ minus 3 }
     ensures zero { or_zero None ≡ pos 0 }
 {}

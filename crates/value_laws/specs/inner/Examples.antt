@@ -3,11 +3,12 @@ use Rattle.std.specs.Prelude.{ℕ, ℤ, pos, negsuc, List, [], ◌∷◌, ◌++�
 use Rattle.value_model.specs.declared.color.Color.TheVariants.{Rgba as AnRgba}
 use Rattle.value_model.specs.declared.length_unit.Bases.{Bases}
 use Rattle.value_model.specs.declared.length_unit.LengthBase.{LengthBase}
+use Rattle.value_model.specs.declared.length_unit.LengthBase.TheVariants.{Em, Pixel}
 use Rattle.value_model.specs.declared.prop.Prop.{Prop}
 use Rattle.value_model.specs.declared.prop.Prop.TheVariants.{Width, Height, MinWidth, MinHeight, MaxWidth, MaxHeight, MarginTop, MarginRight, MarginBottom, MarginLeft, PaddingTop, PaddingRight, PaddingBottom, PaddingLeft, BorderTopWidth, BorderRightWidth, BorderBottomWidth, BorderLeftWidth, BorderTopStyle, BorderRightStyle, BorderBottomStyle, BorderLeftStyle, BorderTopColor, BorderRightColor, BorderBottomColor, BorderLeftColor, FontSize, LineHeight, Color, BackgroundColor}
+use Rattle.value_model.specs.Calculations.{Calculation, ComputedLength, leaf, scaled, in_units, in_pixels, in_percent}
 use Rattle.value_model.specs.Colors.{rgba}
-use Rattle.value_model.specs.Computing.{computed}
-use Rattle.value_model.specs.Lengths.{in_units, in_percent, dimension, unit}
+use Rattle.value_model.specs.Lengths.{Length, dimension, unit}
 use Rattle.value_model.specs.Properties.{properties}
 use Rattle.value_model.specs.Values.{Value, length_value, Final, length, color}
 use Rattle.value_laws.specs.ComputedForms.{is_computed, is_inherited_color}
@@ -52,17 +53,34 @@ with_colors = border_colors ++ (Color ∷ BackgroundColor ∷ [])
 -- ---- values
 
 abbrev pub units : ℤ → Final
-units n = length (in_units n)
+units n = length (leaf (in_units n))
 
 abbrev pub percent : ℤ → Final
-percent millionths = length (in_percent millionths)
+percent millionths = length (leaf (in_percent millionths))
 
 abbrev pub rgba_color : ℕ → ℕ → ℕ → ℕ → Final
 rgba_color red green blue alpha = color (AnRgba (rgba red green blue alpha))
 
+abbrev pub a_pixel : ComputedLength
+a_pixel = leaf (in_pixels (pos 1000000))
+
+abbrev pub ten_percent : ComputedLength
+ten_percent = leaf (in_percent (pos 10000000))
+
+-- one of a unit of this base
+abbrev pub one_of : LengthBase → Calculation Length
+one_of base = leaf (dimension (pos 1000000) (unit base 1 1))
+
+abbrev pub an_em : Value
+an_em = length_value (one_of Em)
+
+-- `calc(1px * -1)`
+abbrev pub below_zero : Value
+below_zero = length_value (scaled (one_of Pixel) (negsuc 999999))
+
 -- bases that are all 0
-abbrev pub no_bases : Bases
-no_bases = record { em = pos 0; rem = pos 0; vw = pos 0; vh = pos 0; cqw = pos 0; cqh = pos 0 }
+abbrev pub bases_of_zero : Bases
+bases_of_zero = record { em = pos 0; rem = pos 0; vw = pos 0; vh = pos 0; cqw = pos 0; cqh = pos 0 }
 
 -- bases below 0
 abbrev pub negative_bases : Bases
@@ -74,8 +92,3 @@ negative_bases = record {
   cqw = negsuc 6399;
   cqh = negsuc 6399;
 }
-
--- a padding of one of a unit of this base, where the bases are below 0
-abbrev pub padding_of : LengthBase → Final
-padding_of base =
-    computed PaddingTop (length_value (dimension (pos 1000000) (unit base 1 1))) negative_bases (pos 0)

@@ -1,5 +1,5 @@
 -- Words of the examples: values of texts.
-use Rattle.std.specs.Prelude.{ℕ, ℤ, pos, List, filter, map, Option, None, option_map, option_and_then, Bool, is_some}
+use Rattle.std.specs.Prelude.{ℕ, ℤ, pos, List, filter, map, Option, None, option_map, option_and_then, Bool, true, is_some}
 use Rattle.css_model.specs.Classes.{Text}
 use Rattle.css_model.specs.Components.{Component, Components, component}
 use Rattle.rules_model.specs.Sheets.{components_of}
@@ -10,7 +10,9 @@ use Rattle.value_model.specs.declared.unit_set.UnitSet.{UnitSet}
 use Rattle.value_model.specs.Colors.{color_of}
 use Rattle.value_model.specs.Computing.{computed}
 use Rattle.value_model.specs.Grammar.{value_of}
-use Rattle.value_model.specs.Lengths.{ComputedLength, computed_length, in_units, length_of, length_or_percentage_of, length_value, mentioned}
+use Rattle.value_model.specs.CalculationGrammar.{any_length_of}
+use Rattle.value_model.specs.Calculations.{ComputedLength, computed_length, in_units, leaf}
+use Rattle.value_model.specs.Lengths.{length_of, length_or_percentage_of, length_value, mentioned}
 use Rattle.value_model.specs.Properties.{property, properties}
 use Rattle.value_model.specs.Shorthands.{Longhand, expansion_of, shorthand_of_name}
 use Rattle.value_model.specs.Values.{Value, Final, length}
@@ -39,7 +41,7 @@ uneven_millionths css = option_map (length_value uneven_bases) (first length_of 
 
 -- a length or percentage as it is computed
 abbrev pub in_length : Text → Option ComputedLength
-in_length text = option_map (computed_length bases) (first length_or_percentage_of (components_of text))
+in_length text = option_map (computed_length bases) (first (any_length_of true) (components_of text))
 
 -- what a length or percentage depends on
 abbrev pub bases_in : Text → Option UnitSet
@@ -72,7 +74,7 @@ finals name text = option_map finals_of (declarations name text)
 
 -- a length in units
 abbrev pub units : ℕ → Final
-units n = length (in_units (pos n))
+units n = length (leaf (in_units (pos n)))
 
 abbrev pub initial_value : Prop → Final
 initial_value p = (property p).initial

@@ -1,7 +1,7 @@
 //! Values of properties of boxes. The font sizes are 10 and 20 pixels, and 30 for the parent.
 ghost use Rattle.std.specs.Prelude.{◌≡◌, Some, codes, neg_ℤ, pos, false};
 ghost use Rattle.value_model.specs.Colors.{rgba};
-ghost use Rattle.value_model.specs.Lengths.{in_percent, in_units};
+ghost use Rattle.value_model.specs.Calculations.{in_percent, in_pixels, in_units, leaf, sum};
 ghost use Rattle.value_model.specs.Values.{alpha, color, integer, keyword, length};
 ghost use Rattle.value_model.specs.declared.color.Color.TheVariants.{CurrentColor, Rgba};
 ghost use Rattle.value_model.specs.declared.keyword.Keyword.TheVariants.{Auto, Block, BorderBox, Collapse, ContentBox, Dashed, Dotted, Double, FlowRoot, Groove, Hidden, Inline, InlineBlock, Inset, None as NoneKeyword, Outset, Ridge, Scroll, Solid, Visible};
@@ -29,7 +29,7 @@ pub fn display()
 pub fn sizes()
     ensures width_auto { final Width (codes "auto") ≡ Some (keyword Auto) }
     ensures width_1_5em { final Width (codes "1.5em") ≡ Some (units 960) }
-    ensures width_10_percent { final Width (codes "10%") ≡ Some (length (in_percent (pos 10000000))) }
+    ensures width_10_percent { final Width (codes "10%") ≡ Some (length (leaf (in_percent (pos 10000000)))) }
     ensures width_0 { final Width (codes "0") ≡ Some (units 0) }
     ensures width_0_2 { final Width (codes "-0") ≡ Some (units 0) }
     ensures width_0_0000001px { final Width (codes "-0.0000001px") ≡ Some (units 0) }
@@ -39,10 +39,16 @@ pub fn sizes()
     ensures width_not_1 { is_right Width (codes "1") ≡ false }
     ensures width_not_none { is_right Width (codes "none") ≡ false }
     ensures width_not_1px_1px { is_right Width (codes "1px 1px") ≡ false }
+    ensures width_calculated { final Width (codes "calc(1px + 1em)") ≡ Some (units 704) }
+    ensures width_calculated_below_0 { final Width (codes "calc(-5px)")
+        ≡ Some (length (leaf (in_units (neg_ℤ (pos 320))))) }
+    ensures width_with_percentage { final Width (codes "calc(2px + 10%)")
+        ≡ Some (length (sum (leaf (in_pixels (pos 2000000))) (leaf (in_percent (pos 10000000))))) }
+    ensures width_not_a_number_calculated { is_right Width (codes "calc(1)") ≡ false }
     ensures height_auto { final Height (codes "auto") ≡ Some (keyword Auto) }
     ensures height_1_5em { final Height (codes "1.5em") ≡ Some (units 960) }
     ensures height_10_percent { final Height (codes "10%")
-        ≡ Some (length (in_percent (pos 10000000))) }
+        ≡ Some (length (leaf (in_percent (pos 10000000)))) }
     ensures height_0 { final Height (codes "0") ≡ Some (units 0) }
     ensures height_0_2 { final Height (codes "-0") ≡ Some (units 0) }
     ensures height_0_0000001px { final Height (codes "-0.0000001px") ≡ Some (units 0) }
@@ -60,25 +66,25 @@ pub fn limits()
     ensures min_width_auto { final MinWidth (codes "auto") ≡ Some (units 0) }
     ensures min_width_2px { final MinWidth (codes "2px") ≡ Some (units 128) }
     ensures min_width_50_percent { final MinWidth (codes "50%")
-        ≡ Some (length (in_percent (pos 50000000))) }
+        ≡ Some (length (leaf (in_percent (pos 50000000)))) }
     ensures min_width_not_minus_1px { is_right MinWidth (codes "-1px") ≡ false }
     ensures min_width_not_none { is_right MinWidth (codes "none") ≡ false }
     ensures min_height_auto { final MinHeight (codes "auto") ≡ Some (units 0) }
     ensures min_height_2px { final MinHeight (codes "2px") ≡ Some (units 128) }
     ensures min_height_50_percent { final MinHeight (codes "50%")
-        ≡ Some (length (in_percent (pos 50000000))) }
+        ≡ Some (length (leaf (in_percent (pos 50000000)))) }
     ensures min_height_not_minus_1px { is_right MinHeight (codes "-1px") ≡ false }
     ensures min_height_not_none { is_right MinHeight (codes "none") ≡ false }
     ensures max_width_none { final MaxWidth (codes "none") ≡ Some (keyword NoneKeyword) }
     ensures max_width_2px { final MaxWidth (codes "2px") ≡ Some (units 128) }
     ensures max_width_50_percent { final MaxWidth (codes "50%")
-        ≡ Some (length (in_percent (pos 50000000))) }
+        ≡ Some (length (leaf (in_percent (pos 50000000)))) }
     ensures max_width_not_minus_1px { is_right MaxWidth (codes "-1px") ≡ false }
     ensures max_width_not_auto { is_right MaxWidth (codes "auto") ≡ false }
     ensures max_height_none { final MaxHeight (codes "none") ≡ Some (keyword NoneKeyword) }
     ensures max_height_2px { final MaxHeight (codes "2px") ≡ Some (units 128) }
     ensures max_height_50_percent { final MaxHeight (codes "50%")
-        ≡ Some (length (in_percent (pos 50000000))) }
+        ≡ Some (length (leaf (in_percent (pos 50000000)))) }
     ensures max_height_not_minus_1px { is_right MaxHeight (codes "-1px") ≡ false }
     ensures max_height_not_auto { is_right MaxHeight (codes "auto") ≡ false }
 {}
@@ -88,50 +94,50 @@ pub fn limits()
 pub fn margins_and_paddings()
     ensures margin_top_auto { final MarginTop (codes "auto") ≡ Some (keyword Auto) }
     ensures margin_top_minus_1px { final MarginTop (codes "-1px")
-        ≡ Some (length (in_units (neg_ℤ (pos 64)))) }
+        ≡ Some (length (leaf (in_units (neg_ℤ (pos 64))))) }
     ensures margin_top_5_percent { final MarginTop (codes "-5%")
-        ≡ Some (length (in_percent (neg_ℤ (pos 5000000)))) }
+        ≡ Some (length (leaf (in_percent (neg_ℤ (pos 5000000))))) }
     ensures margin_top_1ex { final MarginTop (codes "1ex") ≡ Some (units 320) }
     ensures margin_top_not_none { is_right MarginTop (codes "none") ≡ false }
     ensures margin_right_auto { final MarginRight (codes "auto") ≡ Some (keyword Auto) }
     ensures margin_right_minus_1px { final MarginRight (codes "-1px")
-        ≡ Some (length (in_units (neg_ℤ (pos 64)))) }
+        ≡ Some (length (leaf (in_units (neg_ℤ (pos 64))))) }
     ensures margin_right_5_percent { final MarginRight (codes "-5%")
-        ≡ Some (length (in_percent (neg_ℤ (pos 5000000)))) }
+        ≡ Some (length (leaf (in_percent (neg_ℤ (pos 5000000))))) }
     ensures margin_right_1ex { final MarginRight (codes "1ex") ≡ Some (units 320) }
     ensures margin_right_not_none { is_right MarginRight (codes "none") ≡ false }
     ensures margin_bottom_auto { final MarginBottom (codes "auto") ≡ Some (keyword Auto) }
     ensures margin_bottom_minus_1px { final MarginBottom (codes "-1px")
-        ≡ Some (length (in_units (neg_ℤ (pos 64)))) }
+        ≡ Some (length (leaf (in_units (neg_ℤ (pos 64))))) }
     ensures margin_bottom_5_percent { final MarginBottom (codes "-5%")
-        ≡ Some (length (in_percent (neg_ℤ (pos 5000000)))) }
+        ≡ Some (length (leaf (in_percent (neg_ℤ (pos 5000000))))) }
     ensures margin_bottom_1ex { final MarginBottom (codes "1ex") ≡ Some (units 320) }
     ensures margin_bottom_not_none { is_right MarginBottom (codes "none") ≡ false }
     ensures margin_left_auto { final MarginLeft (codes "auto") ≡ Some (keyword Auto) }
     ensures margin_left_minus_1px { final MarginLeft (codes "-1px")
-        ≡ Some (length (in_units (neg_ℤ (pos 64)))) }
+        ≡ Some (length (leaf (in_units (neg_ℤ (pos 64))))) }
     ensures margin_left_5_percent { final MarginLeft (codes "-5%")
-        ≡ Some (length (in_percent (neg_ℤ (pos 5000000)))) }
+        ≡ Some (length (leaf (in_percent (neg_ℤ (pos 5000000))))) }
     ensures margin_left_1ex { final MarginLeft (codes "1ex") ≡ Some (units 320) }
     ensures margin_left_not_none { is_right MarginLeft (codes "none") ≡ false }
     ensures padding_top_3pt { final PaddingTop (codes "3pt") ≡ Some (units 256) }
     ensures padding_top_5_percent { final PaddingTop (codes "5%")
-        ≡ Some (length (in_percent (pos 5000000))) }
+        ≡ Some (length (leaf (in_percent (pos 5000000)))) }
     ensures padding_top_not_minus_1px { is_right PaddingTop (codes "-1px") ≡ false }
     ensures padding_top_not_auto { is_right PaddingTop (codes "auto") ≡ false }
     ensures padding_right_3pt { final PaddingRight (codes "3pt") ≡ Some (units 256) }
     ensures padding_right_5_percent { final PaddingRight (codes "5%")
-        ≡ Some (length (in_percent (pos 5000000))) }
+        ≡ Some (length (leaf (in_percent (pos 5000000)))) }
     ensures padding_right_not_minus_1px { is_right PaddingRight (codes "-1px") ≡ false }
     ensures padding_right_not_auto { is_right PaddingRight (codes "auto") ≡ false }
     ensures padding_bottom_3pt { final PaddingBottom (codes "3pt") ≡ Some (units 256) }
     ensures padding_bottom_5_percent { final PaddingBottom (codes "5%")
-        ≡ Some (length (in_percent (pos 5000000))) }
+        ≡ Some (length (leaf (in_percent (pos 5000000)))) }
     ensures padding_bottom_not_minus_1px { is_right PaddingBottom (codes "-1px") ≡ false }
     ensures padding_bottom_not_auto { is_right PaddingBottom (codes "auto") ≡ false }
     ensures padding_left_3pt { final PaddingLeft (codes "3pt") ≡ Some (units 256) }
     ensures padding_left_5_percent { final PaddingLeft (codes "5%")
-        ≡ Some (length (in_percent (pos 5000000))) }
+        ≡ Some (length (leaf (in_percent (pos 5000000)))) }
     ensures padding_left_not_minus_1px { is_right PaddingLeft (codes "-1px") ≡ false }
     ensures padding_left_not_auto { is_right PaddingLeft (codes "auto") ≡ false }
 {}
@@ -145,6 +151,9 @@ pub fn borders()
     ensures border_top_width_1px { final BorderTopWidth (codes "1px") ≡ Some (units 64) }
     ensures border_top_width_0 { final BorderTopWidth (codes "0") ≡ Some (units 0) }
     ensures border_top_width_not_minus_1px { is_right BorderTopWidth (codes "-1px") ≡ false }
+    ensures border_top_width_calculated { final BorderTopWidth (codes "calc(1px + 1em)") ≡ Some (units 704) }
+    ensures border_top_width_calculated_below_0 { final BorderTopWidth (codes "calc(-5px)") ≡ Some (units 0) }
+    ensures border_top_width_not_with_percentage { is_right BorderTopWidth (codes "calc(1px + 1%)") ≡ false }
     ensures border_top_width_not_1_percent { is_right BorderTopWidth (codes "1%") ≡ false }
     ensures border_top_width_not_auto { is_right BorderTopWidth (codes "auto") ≡ false }
     ensures border_top_style_none { final BorderTopStyle (codes "none") ≡ Some (keyword NoneKeyword) }
@@ -161,6 +170,9 @@ pub fn borders()
     ensures border_right_width_1px { final BorderRightWidth (codes "1px") ≡ Some (units 64) }
     ensures border_right_width_0 { final BorderRightWidth (codes "0") ≡ Some (units 0) }
     ensures border_right_width_not_minus_1px { is_right BorderRightWidth (codes "-1px") ≡ false }
+    ensures border_right_width_calculated { final BorderRightWidth (codes "calc(1px + 1em)") ≡ Some (units 704) }
+    ensures border_right_width_calculated_below_0 { final BorderRightWidth (codes "calc(-5px)") ≡ Some (units 0) }
+    ensures border_right_width_not_with_percentage { is_right BorderRightWidth (codes "calc(1px + 1%)") ≡ false }
     ensures border_right_width_not_1_percent { is_right BorderRightWidth (codes "1%") ≡ false }
     ensures border_right_width_not_auto { is_right BorderRightWidth (codes "auto") ≡ false }
     ensures border_right_style_none { final BorderRightStyle (codes "none")
@@ -178,6 +190,9 @@ pub fn borders()
     ensures border_bottom_width_1px { final BorderBottomWidth (codes "1px") ≡ Some (units 64) }
     ensures border_bottom_width_0 { final BorderBottomWidth (codes "0") ≡ Some (units 0) }
     ensures border_bottom_width_not_minus_1px { is_right BorderBottomWidth (codes "-1px") ≡ false }
+    ensures border_bottom_width_calculated { final BorderBottomWidth (codes "calc(1px + 1em)") ≡ Some (units 704) }
+    ensures border_bottom_width_calculated_below_0 { final BorderBottomWidth (codes "calc(-5px)") ≡ Some (units 0) }
+    ensures border_bottom_width_not_with_percentage { is_right BorderBottomWidth (codes "calc(1px + 1%)") ≡ false }
     ensures border_bottom_width_not_1_percent { is_right BorderBottomWidth (codes "1%") ≡ false }
     ensures border_bottom_width_not_auto { is_right BorderBottomWidth (codes "auto") ≡ false }
     ensures border_bottom_style_none { final BorderBottomStyle (codes "none")
@@ -196,6 +211,9 @@ pub fn borders()
     ensures border_left_width_1px { final BorderLeftWidth (codes "1px") ≡ Some (units 64) }
     ensures border_left_width_0 { final BorderLeftWidth (codes "0") ≡ Some (units 0) }
     ensures border_left_width_not_minus_1px { is_right BorderLeftWidth (codes "-1px") ≡ false }
+    ensures border_left_width_calculated { final BorderLeftWidth (codes "calc(1px + 1em)") ≡ Some (units 704) }
+    ensures border_left_width_calculated_below_0 { final BorderLeftWidth (codes "calc(-5px)") ≡ Some (units 0) }
+    ensures border_left_width_not_with_percentage { is_right BorderLeftWidth (codes "calc(1px + 1%)") ≡ false }
     ensures border_left_width_not_1_percent { is_right BorderLeftWidth (codes "1%") ≡ false }
     ensures border_left_width_not_auto { is_right BorderLeftWidth (codes "auto") ≡ false }
     ensures border_left_style_none { final BorderLeftStyle (codes "none")

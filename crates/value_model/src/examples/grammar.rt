@@ -1,5 +1,5 @@
 //! What holds of the values of every property.
-ghost use Rattle.std.specs.Prelude.{◌≡◌, Some, codes, false};
+ghost use Rattle.std.specs.Prelude.{◌≡◌, Some, codes, false, true};
 ghost use Rattle.value_model.specs.Values.{wide_keyword};
 ghost use Rattle.value_model.specs.declared.prop.Prop.TheVariants.{Color, Contain, ContainerName, Display, MarginTop, Width};
 ghost use Rattle.value_model.specs.declared.wide_keyword.WideKeyword.TheVariants.{Inherit, Initial, Unset, Revert};
@@ -39,7 +39,8 @@ pub fn wide_keywords()
 pub fn component_values()
     ensures comment { final Width (codes "1px/**/") ≡ Some (units 64) }
     ensures block { is_right Width (codes "(1px)") ≡ false }
-    ensures function { is_right Width (codes "calc(1px)") ≡ false }
+    ensures calculation { is_right Width (codes "calc(1px)") ≡ true }
+    ensures function { is_right Width (codes "f(1px)") ≡ false }
     ensures important { is_right Width (codes "1px !important") ≡ false }
     ensures delim { is_right Display (codes "block/") ≡ false }
     ensures bad_string { is_right ContainerName (codes "a '") ≡ false }

@@ -3,7 +3,9 @@
 ghost use Rattle.value_model.specs.inner.Examples.{bases_in, in_length, millionths, uneven_millionths};
 ghost use Rattle.rules_model.specs.Sheets.{components_of};
 ghost use Rattle.value_model.specs.declared.length_unit.LengthBase.TheVariants.{Pixel};
-ghost use Rattle.value_model.specs.Lengths.{dimension, in_percent, in_units, length_in, percentage, unit, unit_set, used_length};
+ghost use Rattle.value_model.specs.CalculationGrammar.{length_in};
+ghost use Rattle.value_model.specs.Calculations.{in_percent, in_units, leaf, used_length};
+ghost use Rattle.value_model.specs.Lengths.{dimension, percentage, unit, unit_set};
 ghost use Rattle.std.specs.Prelude.{◌≡◌, None, Some, codes, false, neg_ℤ, pos, true};
 
 /// Absolute lengths: one exact quotient, truncated towards zero.
@@ -77,27 +79,27 @@ pub fn no_length()
 /// Computed lengths: in units, truncated towards zero and clamped; percentages stay.
 #[tactic(auto, unfolding(css_model::specs::inner::Nesting::levels_of, css_model::specs::inner::Pieces::pieces_after, css_model::specs::inner::Fronts::parts_after))]
 pub fn computed()
-    ensures px { in_length (codes "1px") ≡ Some (in_units (pos 64)) }
-    ensures one_unit { in_length (codes "0.015625px") ≡ Some (in_units (pos 1)) }
-    ensures below_one_unit { in_length (codes "0.015624px") ≡ Some (in_units (pos 0)) }
-    ensures towards_zero { in_length (codes "-0.03px") ≡ Some (in_units (neg_ℤ (pos 1))) }
-    ensures greatest { in_length (codes "16777216px") ≡ Some (in_units (pos 1073741824)) }
-    ensures clamped { in_length (codes "16777217px") ≡ Some (in_units (pos 1073741824)) }
-    ensures clamped_below { in_length (codes "-1e9px") ≡ Some (in_units (neg_ℤ (pos 1073741824))) }
-    ensures percent { in_length (codes "12.5%") ≡ Some (in_percent (pos 12500000)) }
-    ensures fine_percent { in_length (codes "33.333333%") ≡ Some (in_percent (pos 33333333)) }
-    ensures negative_percent { in_length (codes "-1%") ≡ Some (in_percent (neg_ℤ (pos 1000000))) }
+    ensures px { in_length (codes "1px") ≡ Some (leaf (in_units (pos 64))) }
+    ensures one_unit { in_length (codes "0.015625px") ≡ Some (leaf (in_units (pos 1))) }
+    ensures below_one_unit { in_length (codes "0.015624px") ≡ Some (leaf (in_units (pos 0))) }
+    ensures towards_zero { in_length (codes "-0.03px") ≡ Some (leaf (in_units (neg_ℤ (pos 1)))) }
+    ensures greatest { in_length (codes "16777216px") ≡ Some (leaf (in_units (pos 1073741824))) }
+    ensures clamped { in_length (codes "16777217px") ≡ Some (leaf (in_units (pos 1073741824))) }
+    ensures clamped_below { in_length (codes "-1e9px") ≡ Some (leaf (in_units (neg_ℤ (pos 1073741824)))) }
+    ensures percent { in_length (codes "12.5%") ≡ Some (leaf (in_percent (pos 12500000))) }
+    ensures fine_percent { in_length (codes "33.333333%") ≡ Some (leaf (in_percent (pos 33333333))) }
+    ensures negative_percent { in_length (codes "-1%") ≡ Some (leaf (in_percent (neg_ℤ (pos 1000000)))) }
     ensures number { in_length (codes "1") ≡ None }
 {}
 
 /// Used lengths: a percentage of a base is one exact quotient in millionths, truncated towards zero.
 pub fn used()
-    ensures units { used_length (in_units (pos 65)) (pos 6400) ≡ pos 1015625 }
-    ensures half { used_length (in_percent (pos 50000000)) (pos 64) ≡ pos 500000 }
-    ensures third { used_length (in_percent (pos 33333333)) (pos 1) ≡ pos 5208 }
-    ensures negative { used_length (in_percent (neg_ℤ (pos 33333333))) (pos 1) ≡ neg_ℤ (pos 5208) }
-    ensures of_a_negative_base { used_length (in_percent (pos 1000000)) (neg_ℤ (pos 64)) ≡ neg_ℤ (pos 10000) }
-    ensures clamped { used_length (in_percent (pos 1000000000000000)) (pos 1073741824) ≡ pos 1000000000000000 }
+    ensures units { used_length (leaf (in_units (pos 65))) (pos 6400) ≡ pos 1015625 }
+    ensures half { used_length (leaf (in_percent (pos 50000000))) (pos 64) ≡ pos 500000 }
+    ensures third { used_length (leaf (in_percent (pos 33333333))) (pos 1) ≡ pos 5208 }
+    ensures negative { used_length (leaf (in_percent (neg_ℤ (pos 33333333)))) (pos 1) ≡ neg_ℤ (pos 5208) }
+    ensures of_a_negative_base { used_length (leaf (in_percent (pos 1000000))) (neg_ℤ (pos 64)) ≡ neg_ℤ (pos 10000) }
+    ensures clamped { used_length (leaf (in_percent (pos 1000000000000000))) (pos 1073741824) ≡ pos 1000000000000000 }
 {}
 
 /// The bases on which lengths depend.
@@ -122,11 +124,11 @@ pub fn mentioned()
 /// A length by itself.
 #[tactic(auto, unfolding(css_model::specs::inner::Nesting::levels_of, css_model::specs::inner::Pieces::pieces_after, css_model::specs::inner::Fronts::parts_after))]
 pub fn alone()
-    ensures white_space { length_in false (components_of (codes " 1px ")) ≡ Some (dimension (pos 1000000) (unit Pixel 1 1)) }
+    ensures white_space { length_in false (components_of (codes " 1px ")) ≡ Some (leaf (dimension (pos 1000000) (unit Pixel 1 1))) }
     ensures two { length_in false (components_of (codes "1px 1px")) ≡ None }
     ensures percent { length_in false (components_of (codes "1%")) ≡ None }
-    ensures with_percent { length_in true (components_of (codes "1%")) ≡ Some (percentage (pos 1000000)) }
-    ensures zero { length_in true (components_of (codes "0")) ≡ Some (dimension (pos 0) (unit Pixel 1 1)) }
+    ensures with_percent { length_in true (components_of (codes "1%")) ≡ Some (leaf (percentage (pos 1000000))) }
+    ensures zero { length_in true (components_of (codes "0")) ≡ Some (leaf (dimension (pos 0) (unit Pixel 1 1))) }
     ensures nothing { length_in true (components_of (codes "")) ≡ None }
 {}
 

@@ -1,7 +1,7 @@
 //! Shorthands, and the declarations that each stands for.
 ghost use Rattle.std.specs.Prelude.{map, ◌≡◌, None, Some, codes, neg_ℤ, pos, ◌∷◌, []};
 ghost use Rattle.value_model.specs.Colors.{rgba};
-ghost use Rattle.value_model.specs.Lengths.{in_units};
+ghost use Rattle.value_model.specs.Calculations.{in_units, leaf};
 ghost use Rattle.value_model.specs.Properties.{properties};
 ghost use Rattle.value_model.specs.Values.{color, keyword, length, names, wide_keyword};
 ghost use Rattle.value_model.specs.declared.color.Color.TheVariants.{CurrentColor, Rgba};
@@ -52,7 +52,7 @@ pub fn two_sides()
     ensures margin_inline_1px { finals (codes "margin-inline") (codes "1px")
         ≡ Some ((MarginLeft, units 64) ∷ (MarginRight, units 64) ∷ []) }
     ensures margin_inline_1px_2px { finals (codes "margin-inline") (codes "1px -2px")
-        ≡ Some ((MarginLeft, units 64) ∷ (MarginRight, length (in_units (neg_ℤ (pos 128)))) ∷ []) }
+        ≡ Some ((MarginLeft, units 64) ∷ (MarginRight, length (leaf (in_units (neg_ℤ (pos 128))))) ∷ []) }
     ensures margin_block_1px_2px { finals (codes "margin-block") (codes "1px 2px")
         ≡ Some ((MarginTop, units 64) ∷ (MarginBottom, units 128) ∷ []) }
     ensures padding_inline_1px_2px { finals (codes "padding-inline") (codes "1px 2px")

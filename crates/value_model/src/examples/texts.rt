@@ -22,6 +22,9 @@ pub fn font_size()
     ensures font_size_not_minus_1_percent { is_right FontSize (codes "-1%") ≡ false }
     ensures font_size_not_large { is_right FontSize (codes "large") ≡ false }
     ensures font_size_not_1 { is_right FontSize (codes "1") ≡ false }
+    ensures font_size_calculated { final FontSize (codes "calc(1em + 50%)") ≡ Some (units 1600) }
+    ensures font_size_calculated_below_0 { final FontSize (codes "calc(1px - 2px)") ≡ Some (units 0) }
+    ensures font_size_percentage_below_0 { final FontSize (codes "calc(1px - 10%)") ≡ Some (units 0) }
 {}
 
 /// `line-height`: a percentage is one of the element's font size (CSS 2.1, section 10.8.1).
@@ -38,6 +41,9 @@ pub fn line_height()
     ensures line_height_not_minus_1px { is_right LineHeight (codes "-1px") ≡ false }
     ensures line_height_not_minus_1_percent { is_right LineHeight (codes "-1%") ≡ false }
     ensures line_height_not_none { is_right LineHeight (codes "none") ≡ false }
+    ensures line_height_calculated { final LineHeight (codes "calc(1px + 100%)") ≡ Some (units 704) }
+    ensures line_height_calculated_below_0 { final LineHeight (codes "calc(-5px)") ≡ Some (units 0) }
+    ensures line_height_not_a_quotient_of_numbers { is_right LineHeight (codes "calc(4 / 3)") ≡ false }
 {}
 
 /// Other properties of fonts (CSS Fonts 4, sections 2.2 and 2.4).

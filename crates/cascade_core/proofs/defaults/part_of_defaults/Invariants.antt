@@ -6,6 +6,6 @@ use Rattle.cascade_core.proofs.defaults.part_of_defaults.Given as goal
 
 abbrev pub invariant-loop-prop : goal.invariant-loop-prop
 invariant-loop-prop l = record {
-  values : style_view l.part ≡ map default_value (take l.prop-index l.props);
+  values : style_view l.part ≡ map (default_value l.display) (take l.prop-index l.props);
   count : length l.part ≡ l.prop-index;
 }

@@ -1,4 +1,4 @@
-use Rattle.std.proofs.Common.{◌≡◌, ◌∙◌, ◌++◌, ◌+◌, ap, sym, drop, append_assoc}
+use Rattle.std.proofs.Common.{◌∙◌, ◌++◌, ◌+◌, ap, sym, drop, append_assoc}
 use Rattle.css_tokens.specs.Nested.{component_view, components_view}
 use Rattle.custom_model.specs.NamedValues.{names_of}
 use Rattle.custom_model.specs.References.{vars_in}

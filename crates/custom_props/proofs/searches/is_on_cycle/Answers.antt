@@ -1,4 +1,4 @@
-use Rattle.std.proofs.Common.{◌≡◌, ◌∙◌, ◌↔◌, IsTrue, rules, sym, subst, List, [], ◌∷◌, ◌++◌, ℕ, Bool, ◌<◌}
+use Rattle.std.proofs.Common.{◌≡◌, ◌↔◌, IsTrue, rules, sym, subst, List, [], ◌∷◌, ◌++◌, ℕ, Bool, ◌<◌}
 use Rattle.custom_props.specs.inner.Graphs.{IsIn, Leads, Marks, Searches}
 use Rattle.custom_props.proofs.Marking.{searches_end, searches_step}
 use Rattle.custom_props.proofs.searches.is_on_cycle.Goals as goal

@@ -1,4 +1,4 @@
-use Rattle.std.proofs.Common.{sym, subst, get_or, length, take, List, [], ◌∷◌, ℕ, ◌<◌}
+use Rattle.std.proofs.Common.{sym, subst, get_or, take, List, [], ◌∷◌, ℕ, ◌<◌}
 use Rattle.custom_props.specs.inner.Graphs.{Marks}
 use Rattle.custom_props.proofs.Marking.{in_at, marks_then, take_at}
 use Rattle.custom_props.proofs.searches.mark_all.Goals as goal

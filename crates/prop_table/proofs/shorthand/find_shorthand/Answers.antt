@@ -1,7 +1,7 @@
 use Rattle.std.proofs.Common.{◌∙◌, ap, option_map}
 use Rattle.std.specs.Str.{str_eq_ignore_ascii_case}
 use Rattle.prop_table.specs.inner.ShorthandViews.{shorthand_view}
-use Rattle.query_units.proofs.Tables.{lookup-map}
+use Rattle.value_parts.proofs.Tables.{lookup-map}
 use Rattle.prop_table.proofs.shorthand.find_shorthand.Goals as goal
 
 pub returns : goal.returns

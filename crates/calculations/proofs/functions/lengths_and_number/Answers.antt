@@ -1,5 +1,0 @@
-use Rattle.calculations.proofs.CallSteps.{push_number_to_lengths}
-use Rattle.calculations.proofs.functions.lengths_and_number.Goals as goal
-
-pub returns : goal.returns
-returns c = λ n f values. push_number_to_lengths c.args.first c.args.others n f values

@@ -1,3 +1,0 @@
-pub mod Calculations
-pub mod CalculationGrammar
-pub mod inner

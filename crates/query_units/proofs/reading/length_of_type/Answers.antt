@@ -1,4 +1,0 @@
-use Rattle.query_units.proofs.reading.length_of_type.Goals as goal
-
-pub returns-in-Dimension : goal.returns-in-Dimension
-returns-in-Dimension c = rw c.in-Dimension.is c.dimension_of.ensures
