@@ -177,10 +177,10 @@ pointer-events: auto
 ok
 "#,
     ),
-    // What is not built: functions, custom properties, units of containers, conditions. A node that is
+    // What is not built: references, custom properties, units of containers, conditions. A node that is
     // not there is told first, and a sheet that is taken out does not count.
     (
-        br#"{"do":"load","width":1,"height":1,"doc":["div",["p",{"style":"zz:f(CALC(1px))"}]]}
+        br#"{"do":"load","width":1,"height":1,"doc":["div",["p",{"style":"zz:f(VAR(1px))"}]]}
 {"do":"style","id":0}
 {"do":"style","id":2}
 {"do":"remove","id":1}
