@@ -5,12 +5,10 @@ use Rattle.conditions_model.specs.declared.tri.Tri.{Tri}
 use Rattle.conditions_model.specs.declared.tri.Tri.TheVariants.{Yes, No, Unknown}
 use Rattle.selectors_model.specs.declared.spec.Spec.{Spec}
 use Rattle.selectors_model.specs.Specificity.{spec, matching_specificity}
-use Rattle.value_model.specs.declared.prop.Prop.{Prop}
-use Rattle.value_model.specs.Values.{Value}
 use Rattle.cascade_model.specs.declared.origin.Origin.{Origin}
 use Rattle.cascade_model.specs.declared.origin.Origin.TheVariants.{Author}
 use Rattle.cascade_model.specs.Books.{BookRule}
-use Rattle.cascade_model.specs.Kept.{Kept}
+use Rattle.cascade_model.specs.Kept.{Kept, KeptValue, Target}
 
 -- a rule that matches an element, and the specificity of its most specific selector that does
 pub record MatchedRule : Type 0 where
@@ -35,8 +33,8 @@ pub record Applied : Type 0 where
   pub in_attribute : Bool
   -- of the rule that it stands in
   pub specificity : Spec
-  pub prop : Prop
-  pub value : Value
+  pub target : Target
+  pub value : KeptValue
 
 abbrev pub applied_in_rule : MatchedRule → Kept → Applied
 applied_in_rule m k = record {
@@ -44,7 +42,7 @@ applied_in_rule m k = record {
   important = k.important;
   in_attribute = false;
   specificity = m.specificity;
-  prop = k.prop;
+  target = k.target;
   value = k.value;
 }
 
@@ -54,7 +52,7 @@ applied_in_attribute k = record {
   important = k.important;
   in_attribute = true;
   specificity = spec 0 0 0;
-  prop = k.prop;
+  target = k.target;
   value = k.value;
 }
 

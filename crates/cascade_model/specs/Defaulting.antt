@@ -1,6 +1,6 @@
 -- What a property gets: the value that wins, or what is inherited or initial (CSS Cascade 4, sections 4.3,
 -- 4.4 and 7).
-use Rattle.std.specs.Prelude.{ℤ, pos, if◌then◌else◌, List, filter, get_or, Option, Some, None, option_map, Bool, true, false}
+use Rattle.std.specs.Prelude.{ℤ, pos, if◌then◌else◌, List, get_or, Option, Some, None, Bool, true, false}
 use Rattle.value_model.specs.declared.color.Color.{Color}
 use Rattle.value_model.specs.declared.color.Color.TheVariants.{CurrentColor}
 use Rattle.value_model.specs.declared.keyword.Keyword.TheVariants.{Block, Inline, InlineBlock, Hidden, None as NoneKeyword}
@@ -13,10 +13,6 @@ use Rattle.value_model.specs.Computing.{computed}
 use Rattle.value_model.specs.Calculations.{in_units, leaf}
 use Rattle.value_model.specs.Properties.{property, prop_place, is_same_prop, pixels}
 use Rattle.value_model.specs.Values.{Value, wide_keyword, color_value, Final, keyword, length}
-use Rattle.cascade_model.specs.declared.origin.Origin.{Origin}
-use Rattle.cascade_model.specs.declared.origin.Origin.TheVariants.{UserAgent, Author}
-use Rattle.cascade_model.specs.Applied.{Applied}
-use Rattle.cascade_model.specs.Order.{winner}
 
 -- the computed values of all properties, in the order of the properties
 abbrev pub Style : Type 0
@@ -25,26 +21,11 @@ Style = List Final
 abbrev pub value_in : Style → Prop → Final
 value_in style p = get_or style (prop_place p) (property p).initial
 
--- ---- the values that win
-
-abbrev pub is_of_user_agent : Origin → Bool
-is_of_user_agent UserAgent = true
-is_of_user_agent Author = false
-
--- the declarations of the user agent alone
-abbrev pub without_author : List Applied → List Applied
-without_author ds = filter (λ d. is_of_user_agent d.origin) ds
-
--- for each property the value that wins, and the one that wins among those of the user agent
+-- for each property the value that wins, and the one that wins among those of the user agent, after
+-- substitution
 pub record Winners : Type 0 where
   pub of_all : Prop → Option Value
   pub of_user_agent : Prop → Option Value
-
-abbrev pub winners_of : List Applied → Winners
-winners_of ds = record {
-  of_all = λ p. option_map (λ d. d.value) (winner p ds);
-  of_user_agent = λ p. option_map (λ d. d.value) (winner p (without_author ds));
-}
 
 -- ---- defaulting (section 7)
 

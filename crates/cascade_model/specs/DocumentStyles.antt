@@ -10,8 +10,9 @@ use Rattle.conditions_model.specs.declared.tri.Tri.TheVariants.{Yes}
 use Rattle.cascade_model.specs.Applied.{Applied, MatchedRule, applied_of, matched_rules}
 use Rattle.cascade_model.specs.Books.{BookRule}
 use Rattle.cascade_model.specs.Kept.{Kept, kept_declarations}
-use Rattle.cascade_model.specs.StyleEquation.{style_of}
-use Rattle.cascade_model.specs.Defaulting.{Style, font_size_in, winners_of}
+use Rattle.cascade_model.specs.Cascaded.{cascaded_of}
+use Rattle.cascade_model.specs.Defaulting.{font_size_in}
+use Rattle.cascade_model.specs.Styling.{Styling, styling_of}
 
 -- the declarations of the `style` attribute of an element
 abbrev pub inline_declarations : Node → ℕ → List Kept
@@ -48,43 +49,43 @@ pub record Page : Type 0 where
   pub viewport : Viewport
   pub root : Node
 
--- the styles of elements, by their ids
+-- the styles of elements and their environments, by their ids
 abbrev pub Styles : Type 0
-Styles = ℕ → Option Style
+Styles = ℕ → Option Styling
 
 -- the style of an element below this parent, or of the root
-abbrev pub element_style : Page → Option Style → (em rem : ℤ) → ℕ → Style
-element_style page parent em rem i = style_of (record {
-  winners = winners_of (applied_to page.book page.root i);
+abbrev pub element_style : Page → Option Styling → (em rem : ℤ) → ℕ → Styling
+element_style page parent em rem i = styling_of (record {
+  cascaded = cascaded_of (applied_to page.book page.root i);
   parent = parent;
   bases = bases_in page.viewport em rem;
 })
 
 -- the style of an element whose parent has this style, where the root has this font size
-abbrev pub child_style : Page → Style → ℤ → ℕ → Style
-child_style page parent rem i = element_style page (Some parent) (font_size_in parent) rem i
+abbrev pub child_style : Page → Styling → ℤ → ℕ → Styling
+child_style page parent rem i = element_style page (Some parent) (font_size_in parent.style) rem i
 
 -- the elements of a tree have the styles of the cascade, where the parent has this one and the root this
 -- font size
 abbrev mutual
-  pub AreStyledBelow : Page → Style → ℤ → Styles → Node → Type 0
+  pub AreStyledBelow : Page → Styling → ℤ → Styles → Node → Type 0
   AreStyledBelow page parent rem styles (element i name attributes children) =
       (styles i ≡ Some (child_style page parent rem i))
       × AllStyledBelow page (child_style page parent rem i) rem styles children
   AreStyledBelow page parent rem styles (text i cs) = styles i ≡ None
 
-  pub AllStyledBelow : Page → Style → ℤ → Styles → Nodes → Type 0
+  pub AllStyledBelow : Page → Styling → ℤ → Styles → Nodes → Type 0
   AllStyledBelow page parent rem styles no_nodes = Unit {0}
   AllStyledBelow page parent rem styles (node n ns) =
       AreStyledBelow page parent rem styles n × AllStyledBelow page parent rem styles ns
 
 -- the style of the root
-abbrev pub root_style : Page → ℕ → Style
+abbrev pub root_style : Page → ℕ → Styling
 root_style page i = element_style page None initial_font_size initial_font_size i
 
 -- the elements of a document have the styles of the cascade
 abbrev pub AreStyled : Page → Styles → Node → Type 0
 AreStyled page styles (element i name attributes children) =
     (styles i ≡ Some (root_style page i))
-    × AllStyledBelow page (root_style page i) (font_size_in (root_style page i)) styles children
+    × AllStyledBelow page (root_style page i) (font_size_in (root_style page i).style) styles children
 AreStyled page styles (text i cs) = styles i ≡ None

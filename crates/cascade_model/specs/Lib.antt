@@ -2,7 +2,10 @@ pub mod Kept
 pub mod Books
 pub mod Applied
 pub mod Order
+pub mod Cascaded
 pub mod Defaulting
+pub mod Substituting
 pub mod StyleEquation
+pub mod Styling
 pub mod DocumentStyles
 pub mod inner

@@ -3,11 +3,10 @@ use Rattle.std.specs.Prelude.{ℕ, nat_lt, ◌==◌, ◌≡◌, if◌then◌else
 use Rattle.std.specs.Bool.{beq}
 use Rattle.std.specs.List.{slice_get}
 use Rattle.selectors_model.specs.Specificity.{is_less_spec}
-use Rattle.value_model.specs.declared.prop.Prop.{Prop}
-use Rattle.value_model.specs.Properties.{is_same_prop}
 use Rattle.cascade_model.specs.declared.origin.Origin.{Origin}
 use Rattle.cascade_model.specs.declared.origin.Origin.TheVariants.{UserAgent, Author}
 use Rattle.cascade_model.specs.Applied.{Applied}
+use Rattle.cascade_model.specs.Kept.{Target, is_same_target}
 
 -- origin and importance, from the weakest
 abbrev pub level : Origin → Bool → ℕ
@@ -35,11 +34,12 @@ is_stronger a b =
 abbrev pub outranks : Applied → ℕ → Applied → ℕ → Bool
 outranks a m b n = if is_stronger a b then true else if is_stronger b a then false else nat_lt n m
 
--- this declaration of the list is of the property, and no other of the property outranks it
-pub record IsWinner (ds : List Applied) (p : Prop) (place : ℕ) (d : Applied) : Type 0 where
+-- this declaration of the list is of the property, and no other of the property outranks it; the property
+-- may be a custom one
+pub record IsWinner (ds : List Applied) (t : Target) (place : ℕ) (d : Applied) : Type 0 where
   pub stands : slice_get ds place ≡ Some d
-  pub of_property : d.prop ≡ p
-  pub not_outranked : (n : ℕ) (e : Applied) → slice_get ds n ≡ Some e → e.prop ≡ p
+  pub of_target : d.target ≡ t
+  pub not_outranked : (n : ℕ) (e : Applied) → slice_get ds n ≡ Some e → e.target ≡ t
       → outranks e n d place ≡ false
 
 -- ---- the same, found
@@ -50,6 +50,6 @@ stronger_of d None = Some d
 stronger_of d (Some e) = if is_stronger d e then Some d else Some e
 
 -- the declaration of a property that wins
-abbrev pub winner : Prop → List Applied → Option Applied
-winner p [] = None
-winner p (d ∷ ds) = if is_same_prop p d.prop then stronger_of d (winner p ds) else winner p ds
+abbrev pub winner : Target → List Applied → Option Applied
+winner t [] = None
+winner t (d ∷ ds) = if is_same_target t d.target then stronger_of d (winner t ds) else winner t ds

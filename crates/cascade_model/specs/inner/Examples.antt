@@ -1,6 +1,8 @@
 -- Words of the examples: styles of elements in small documents with small sheets.
 use Rattle.std.specs.Prelude.{ℕ, ◌==◌, pos, if◌then◌else◌, List, [], ◌∷◌, ◌++◌, map, codes, Some, None, is_some}
 use Rattle.css_model.specs.Classes.{Text}
+use Rattle.custom_model.specs.NamedValues.{NamedValues}
+use Rattle.custom_model.specs.ValueText.{value_text}
 use Rattle.page_model.specs.Document.{Node, element, text, no_nodes, node}
 use Rattle.rules_model.specs.Sheets.{style_rules_of}
 use Rattle.value_model.specs.declared.prop.Prop.{Prop}
@@ -10,6 +12,7 @@ use Rattle.value_model.specs.Values.{Final, length as length_value}
 use Rattle.cascade_model.specs.declared.origin.Origin.TheVariants.{UserAgent}
 use Rattle.cascade_model.specs.Books.{author_rules, book_rules}
 use Rattle.cascade_model.specs.Defaulting.{Style, font_size_in, style_of_border, value_in}
+use Rattle.cascade_model.specs.Styling.{Styling}
 use Rattle.cascade_model.specs.DocumentStyles.{AreStyled, Page, Styles, child_style, root_style}
 
 -- ---- documents
@@ -42,20 +45,20 @@ page_with_two user_agent first second root = page_with_sheets user_agent (first 
 
 -- a property of the root, the id of which is 0
 abbrev pub of_root : Page → Prop → Final
-of_root page p = value_in (root_style page 0) p
+of_root page p = value_in (root_style page 0).style p
 
 -- the style of the child of the root, the id of which is 1, and of its child, the id of which is 2
-abbrev pub style_of_child : Page → Style
-style_of_child page = child_style page (root_style page 0) (font_size_in (root_style page 0)) 1
+abbrev pub style_of_child : Page → Styling
+style_of_child page = child_style page (root_style page 0) (font_size_in (root_style page 0).style) 1
 
-abbrev pub style_of_grandchild : Page → Style
-style_of_grandchild page = child_style page (style_of_child page) (font_size_in (root_style page 0)) 2
+abbrev pub style_of_grandchild : Page → Styling
+style_of_grandchild page = child_style page (style_of_child page) (font_size_in (root_style page 0).style) 2
 
 abbrev pub of_child : Page → Prop → Final
-of_child page p = value_in (style_of_child page) p
+of_child page p = value_in (style_of_child page).style p
 
 abbrev pub of_grandchild : Page → Prop → Final
-of_grandchild page p = value_in (style_of_grandchild page) p
+of_grandchild page p = value_in (style_of_grandchild page).style p
 
 -- a length in units
 abbrev pub units : ℕ → Final
@@ -83,7 +86,26 @@ family first second third =
 abbrev pub IsStyled : Page → Styles → Type 0
 IsStyled page styles = AreStyled page styles page.root
 
--- styles of the ids 0, 1 and 2
+-- a style of an element without custom properties
+abbrev pub without_custom : Style → Styling
+without_custom style = record { style = style; environment = [] }
+
+-- styles of the ids 0, 1 and 2, which have no custom properties
 abbrev pub three_styles : (first second third : Style) → Styles
 three_styles first second third i =
-    if i == 0 then Some first else if i == 1 then Some second else if i == 2 then Some third else None
+    if i == 0 then Some (without_custom first)
+    else if i == 1 then Some (without_custom second)
+    else if i == 2 then Some (without_custom third)
+    else None
+
+-- ---- custom properties
+
+-- the environment of the root and of its child, as texts
+abbrev pub texts_of : NamedValues → List (Text × Text)
+texts_of values = map (λ v. (v.0, value_text v.1)) values
+
+abbrev pub environment_of_root : Page → List (Text × Text)
+environment_of_root page = texts_of (root_style page 0).environment
+
+abbrev pub environment_of_child : Page → List (Text × Text)
+environment_of_child page = texts_of (style_of_child page).environment

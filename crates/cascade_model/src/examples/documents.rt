@@ -1,5 +1,5 @@
 //! Styles of whole documents.
-ghost use Rattle.cascade_model.specs.inner.Examples.{IsStyled, family, initial_but, leaf, page_with, parent, three_styles, units};
+ghost use Rattle.cascade_model.specs.inner.Examples.{IsStyled, family, initial_but, leaf, page_with, parent, three_styles, units, without_custom};
 ghost use Rattle.page_model.specs.Document.{element, no_nodes, node, text};
 ghost use Rattle.std.specs.Prelude.{[], codes, if◌then◌else◌, None, Some, ◌==◌, ◌∷◌};
 ghost use Rattle.value_model.specs.Values.{keyword};
@@ -22,14 +22,14 @@ pub fn siblings()
     ensures own { IsStyled (page_with (codes "") (codes "p{width:1px}q{width:2px}") (element 0 (codes "div") [] (node (leaf 1 (codes "p") []) (node (leaf 2 (codes "q") []) no_nodes)))) (three_styles (initial_but ((Display, keyword Block) ∷ [])) (initial_but ((Width, units 64) ∷ [])) (initial_but ((Width, units 128) ∷ []))) }
     ensures same { IsStyled (page_with (codes "") (codes "p{width:1px}q{width:2px}") (element 0 (codes "div") [] (node (leaf 1 (codes "p") []) (node (leaf 2 (codes "q") []) no_nodes)))) (three_styles (initial_but ((Display, keyword Block) ∷ [])) (initial_but ((Width, units 64) ∷ [])) (initial_but ((Width, units 64) ∷ [])))
         → ⊥ }
-    ensures missing { IsStyled (page_with (codes "") (codes "p{width:1px}q{width:2px}") (element 0 (codes "div") [] (node (leaf 1 (codes "p") []) (node (leaf 2 (codes "q") []) no_nodes)))) (λ i. if i == 0 then Some (initial_but ((Display, keyword Block) ∷ [])) else None)
+    ensures missing { IsStyled (page_with (codes "") (codes "p{width:1px}q{width:2px}") (element 0 (codes "div") [] (node (leaf 1 (codes "p") []) (node (leaf 2 (codes "q") []) no_nodes)))) (λ i. if i == 0 then Some (without_custom (initial_but ((Display, keyword Block) ∷ []))) else None)
         → ⊥ }
 {}
 
 /// A text has no style.
 #[tactic(auto, unfolding(css_model::specs::inner::Nesting::levels_of, css_model::specs::inner::Pieces::pieces_after, css_model::specs::inner::Fronts::parts_after))]
 pub fn texts()
-    ensures without { IsStyled (page_with (codes "") (codes "") (parent 0 (codes "div") [] (text 1 (codes "x")))) (λ i. if i == 0 then Some (initial_but ((Display, keyword Block) ∷ [])) else None) }
-    ensures with { IsStyled (page_with (codes "") (codes "") (parent 0 (codes "div") [] (text 1 (codes "x")))) (λ i. Some (initial_but ((Display, keyword Block) ∷ [])))
+    ensures without { IsStyled (page_with (codes "") (codes "") (parent 0 (codes "div") [] (text 1 (codes "x")))) (λ i. if i == 0 then Some (without_custom (initial_but ((Display, keyword Block) ∷ []))) else None) }
+    ensures with { IsStyled (page_with (codes "") (codes "") (parent 0 (codes "div") [] (text 1 (codes "x")))) (λ i. Some (without_custom (initial_but ((Display, keyword Block) ∷ []))))
         → ⊥ }
 {}
