@@ -4,5 +4,6 @@
 pub mod defaulting;
 pub mod documents;
 pub mod fonts;
+pub mod media;
 pub mod order;
 pub mod rows;
