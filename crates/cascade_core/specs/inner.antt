@@ -1,4 +1,6 @@
 -- What private functions cite.
+pub mod Media
 pub mod Drafts
 pub mod BothTables
 pub mod Matches
+pub mod Answers

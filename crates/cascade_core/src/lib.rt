@@ -13,6 +13,7 @@ mod draft;
 mod elements;
 mod given;
 mod kept;
+mod media;
 mod parts;
 mod resolving;
 mod rule_body;
