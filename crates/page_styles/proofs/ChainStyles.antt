@@ -1,5 +1,5 @@
 -- Styles from the root down.
-use Rattle.std.proofs.Common.{◌≡◌, ◌∙◌, ap, ap₂, sym, subst, refl, ◌⊎◌, ℕ, zero, suc, ◌-◌, ◌<◌, ◌==◌, ℤ, List, [], ◌∷◌, ◌++◌, append-nil, length, take, drop, slice_index_or, Bool, true, false, Option, Some, None, Result, Ok, Err, OnErr, eqb-true, arith}
+use Rattle.std.proofs.Common.{◌≡◌, ◌∙◌, ap, ap₂, sym, subst, refl, ◌⊎◌, ℕ, zero, suc, ◌-◌, ◌==◌, ℤ, List, [], ◌∷◌, ◌++◌, append-nil, length, take, drop, slice_index_or, true, false, Option, Some, None, Result, Ok, Err, OnErr, eqb-true, arith}
 use Rattle.std.specs.Prelude.{IsSome}
 use Rattle.cascade_laws.proofs.Parentless.{parentless-root}
 use Rattle.page_model.specs.Document.{AreDistinct, Node, ids, name_at, parent_of}
@@ -19,7 +19,7 @@ use Rattle.value_model.specs.declared.length_unit.Bases.{Bases}
 -- the style of an element of a page, by its parent and by what lengths refer to
 abbrev pub style_by : Page → ℕ → Option Style → Bases → Style
 style_by page i parent b = style_of (record {
-  winners = winners_of (applied_to page.book page.root i);
+  winners = winners_of (applied_to page.book page.viewport page.root i);
   parent = parent;
   bases = b;
 })

@@ -1,4 +1,4 @@
-use Rattle.std.proofs.Common.{rules, ◌≡◌, ◌∙◌, sym, subst, ℕ, List, IfOk, length, slice_index_or, take, drop, ◌-◌}
+use Rattle.std.proofs.Common.{rules, ◌≡◌, ◌∙◌, sym, subst, IfOk}
 use Rattle.cascade_core.specs.StyledView.{styled_view}
 use Rattle.page_styles.specs.inner.Sources.{source_view}
 use Rattle.page_styles.proofs.ChainStyles.{begun-child, begun-parent, begun-root, child-below, parted, step-up, top-is}
