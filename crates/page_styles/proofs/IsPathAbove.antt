@@ -14,7 +14,6 @@ use Rattle.stream_model.specs.declared.kind.Kind.TheVariants.{Match, Style as st
 use Rattle.reply_model.specs.Replies.{is_for_styles}
 use Rattle.cascade_laws.proofs.AreStyled.{child-of-known, parentless-style}
 use Rattle.selectors.proofs.AncestorsOf.{parent-element}
-use Rattle.cascade_model.specs.Defaulting.{Style}
 use Rattle.cascade_model.specs.DocumentStyles.{AreStyled, Page, Styles}
 use Rattle.page_styles.specs.Paths.{IsPathAbove, log_below, style_below}
 use Rattle.page_styles.specs.Styles.{IsBegun, IsStyleAt, IsStyling, LogsStyling}
