@@ -1,12 +1,12 @@
 -- Styles from the root down.
-use Rattle.std.proofs.Common.{◌≡◌, ◌∙◌, ap, ap₂, sym, subst, refl, ◌⊎◌, ℕ, zero, suc, ◌-◌, ◌<◌, ◌==◌, ℤ, List, [], ◌∷◌, ◌++◌, append-nil, length, take, drop, slice_index_or, Bool, true, false, Option, Some, None, Result, Ok, Err, OnErr, eqb-true, arith}
+use Rattle.std.proofs.Common.{◌≡◌, ◌∙◌, ap, ap₂, sym, subst, refl, ◌⊎◌, ℕ, zero, suc, ◌-◌, ◌==◌, ℤ, List, [], ◌∷◌, ◌++◌, append-nil, length, take, drop, slice_index_or, true, false, Option, Some, None, Result, Ok, Err, OnErr, OnOk, eqb-true, arith}
 use Rattle.std.specs.Prelude.{IsSome}
 use Rattle.cascade_laws.proofs.Parentless.{parentless-root}
 use Rattle.page_model.specs.Document.{AreDistinct, Node, ids, name_at, parent_of}
 use Rattle.selectors.proofs.AncestorsOf.{parent-element}
 use Rattle.stream_model.specs.Ledger.{Event, pair, pairs}
-use Rattle.stream_model.specs.declared.kind.Kind.TheVariants.{Match}
-use Rattle.page_styles.proofs.IsPathAbove.{begun-before, begun-on}
+use Rattle.stream_model.specs.declared.kind.Kind.TheVariants.{Match, Style as styling}
+use Rattle.page_styles.proofs.IsPathAbove.{begun-before, begun-on, logged-on}
 use Rattle.page_styles.specs.Paths.{IsPathAbove, log_below, style_below}
 use Rattle.page_styles.specs.Styles.{IsBegun}
 use Rattle.cascade_laws.specs.Styles.{root_font_size}
@@ -36,6 +36,13 @@ pub font-of-root : (page : Page) (i : ℕ) (s : Styling) (rem : ℤ) → s ≡ r
 font-of-root page i s rem is top size =
     size ∙ (ap (λ x. font_size_in x.style) is ∙ ap (λ j. font_size_in (root_style page j).style) top)
 
+-- the style of a child, by the one of its parent
+pub of-child : (page : Page) (i : ℕ) (s above : Styling) (parent : Option Styling) (b : Bases) (em rem : ℤ) → s ≡ style_by page i parent b
+    → parent ≡ Some above → b ≡ bases_in page.viewport em rem → em ≡ font_size_in above.style → s ≡ child_style page above rem i
+of-child page i s above parent b em rem h is bases size =
+    h ∙ (ap (λ p. style_by page i p b) is
+    ∙ ap (style_by page i (Some above)) (bases ∙ ap (λ x. bases_in page.viewport x rem) size))
+
 -- ---- one step up
 
 take-whole : (n : ℕ) (xs : List ℕ) → n ≡ length xs → take n xs ≡ xs
@@ -58,6 +65,12 @@ pub top-is : (root : Node) (i : ℕ) (above : List ℕ) → IsSome (name_at i ro
     → i ≡ id_of root
 top-is root i above named path h = parentless-root root i named (none-above root i above path h)
 
+-- nothing is above the root
+pub root-below : (page : Page) (i : ℕ) (above : List ℕ) → (length above == 0) ≡ true → root_style page i ≡ style_below page i above
+root-below page i [] h = refl
+root-below page i (p ∷ above) h =
+    let none : length (p ∷ above) ≡ 0 = eqb-true (length (p ∷ above)) 0 h in absurd (omega (arith, none))
+
 -- the step from an element to its parent
 pub record StepUp (root : Node) (i p : ℕ) (rest above : List ℕ) : Type 0 where
   pub parts : above ≡ p ∷ rest
@@ -75,6 +88,15 @@ pub child-below : (page : Page) (i p : ℕ) (rest above : List ℕ) (s : Styling
     → s ≡ style_below page p rest → rem ≡ root_font_size page page.root → child_style page s rem i ≡ style_below page i above
 child-below page i p rest above s rem parts style size =
     ap₂ (λ x e. child_style page x e i) style size ∙ ap (style_below page i) (sym parts)
+
+-- ---- work that was done
+
+pub logged-child : {T E : Type 0} (r : Result T E) (i p : ℕ) (rest above : List ℕ) (old mid new : List Event) → above ≡ p ∷ rest
+    → mid ≡ old ++ pairs (log_below p rest) → OnOk r (new ≡ mid ++ pair Match i ∷ pair styling i ∷ [])
+    → OnOk r (new ≡ old ++ pairs (log_below i above))
+logged-child (Err x) i p rest above old mid new parts e h = tt
+logged-child (Ok x) i p rest above old mid new parts e h =
+    subst (λ xs. new ≡ old ++ pairs (log_below i xs)) (sym parts) (logged-on i (log_below p rest) old mid new e h)
 
 -- ---- work that was begun
 

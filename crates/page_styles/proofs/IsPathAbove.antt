@@ -1,5 +1,5 @@
 -- The way up is one, and no element stands in it twice.
-use Rattle.std.proofs.Common.{◌≡◌, ◌∙◌, ap, sym, subst, refl, inl, inr, ◌⊎◌, ℕ, suc, ◌<◌, List, [], ◌∷◌, ◌++◌, Option, Some, None, option_map, option_and_then, unwrap_or, true, false, is_some, length, map, append_assoc, append-nil, Bool, arith}
+use Rattle.std.proofs.Common.{◌≡◌, ◌∙◌, ap, sym, subst, refl, inl, inr, ◌⊎◌, ℕ, suc, ◌<◌, List, [], ◌∷◌, ◌++◌, Option, Some, None, option_map, option_and_then, unwrap_or, true, false, is_some, length, append_assoc, append-nil, Bool, arith}
 use Rattle.std.proofs.lemmas.Bool.{false≢true}
 use Rattle.std.proofs.lemmas.List.{map-append}
 use Rattle.std.specs.Prelude.{IsSome}
@@ -16,7 +16,7 @@ use Rattle.cascade_laws.proofs.AreStyled.{child-of-known, parentless-style}
 use Rattle.selectors.proofs.AncestorsOf.{parent-element}
 use Rattle.cascade_model.specs.DocumentStyles.{AreStyled, Page, Styles}
 use Rattle.page_styles.specs.Paths.{IsPathAbove, log_below, style_below}
-use Rattle.page_styles.specs.Styles.{IsBegun, IsStyleAt, IsStyling, LogsStyling}
+use Rattle.page_styles.specs.Styles.{IsBegun, IsStyling, LogsStyling}
 
 -- ---- options
 

@@ -1,5 +1,5 @@
 -- The style of an element of a page, and why it is refused.
-use Rattle.std.proofs.Common.{◌≡◌, ◌∙◌, ap, sym, subst, refl, ℕ, List, [], ◌∷◌, ◌++◌, Bool, true, false, ◌||◌, Option, Some, None, map, option_map, is_none, append-nil, codes, encode_utf8_all, unwrap_or, Result, Ok, Err, OnOk, OnErr, IfOk}
+use Rattle.std.proofs.Common.{◌≡◌, ◌∙◌, ap, sym, subst, refl, ℕ, List, [], ◌∷◌, ◌++◌, Bool, true, false, Option, Some, None, map, option_map, is_none, append-nil, codes, encode_utf8_all, unwrap_or, Result, Ok, Err, OnOk, OnErr, IfOk}
 use Rattle.std.proofs.lemmas.Str.{chars_from_encodes}
 use Rattle.std.specs.List.{list_any}
 use Rattle.std.specs.Option.{option_map_or}
@@ -9,7 +9,7 @@ use Rattle.cascade_core.specs.Books.{book_view}
 use Rattle.cascade_core.specs.declared.rule_book.RuleBook.{RuleBook}
 use Rattle.cascade_laws.proofs.TreeStyles.{some-styled}
 use Rattle.cascade_model.specs.Books.{book_of}
-use Rattle.cascade_model.specs.DocumentStyles.{AreStyled, Page as StyledPage}
+use Rattle.cascade_model.specs.DocumentStyles.{Page as StyledPage}
 use Rattle.cascade_model.specs.Styling.{Styling}
 use Rattle.css_rules.specs.declared.sheet.Sheet.{Sheet}
 use Rattle.page_model.specs.Document.{AreDistinct, Node, find, ids, name_at, value_at}
@@ -25,7 +25,7 @@ use Rattle.page_styles.specs.Styles.{IsStyleAt, LogsStyling, page_of}
 use Rattle.reply_model.specs.Spelling.{error_line, ok_line}
 use Rattle.reply_model.specs.StyleText.{AreStylesOf, style_text, styling_lines}
 use Rattle.request_model.specs.States.{style_causes}
-use Rattle.request_model.specs.UnbuiltStyles.{has_unbuilt, has_unbuilt_attribute, has_unbuilt_rule, has_unbuilt_styles, is_unbuilt_rule}
+use Rattle.request_model.specs.UnbuiltStyles.{has_unbuilt, has_unbuilt_attribute, has_unbuilt_rule, has_unbuilt_styles}
 use Rattle.rules_model.specs.Rules.{StyleRule}
 use Rattle.rules_model.specs.Sheets.{style_attr_of, style_rules_of}
 use Rattle.selectors_model.specs.Matching.{elements_of}

@@ -1,8 +1,6 @@
-use Rattle.std.proofs.Common.{◌≡◌, ◌∙◌, ap, sym, Option, option_map}
+use Rattle.std.proofs.Common.{◌∙◌, ap, option_map}
 use Rattle.cascade_core.specs.StyledView.{styled_view}
-use Rattle.cascade_model.specs.Defaulting.{Style, font_size_in}
-use Rattle.cascade_model.specs.DocumentStyles.{root_style}
-use Rattle.page_styles.specs.declared.chains.Chain.{Chain}
+use Rattle.cascade_model.specs.Defaulting.{font_size_in}
 use Rattle.page_styles.specs.inner.Sources.{source_view}
 use Rattle.page_styles.proofs.ChainStyles.{at-root, font-of-root}
 use Rattle.page_styles.proofs.chains.chain_at_root.Goals as goal

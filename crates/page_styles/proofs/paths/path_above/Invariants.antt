@@ -1,4 +1,4 @@
-use Rattle.std.proofs.Common.{◌≡◌, ◌++◌, ℕ, List, unwrap_or}
+use Rattle.std.proofs.Common.{◌++◌, ℕ, List, unwrap_or}
 use Rattle.page_model.specs.Edits.{level}
 use Rattle.page_styles.specs.Paths.{IsPathAbove}
 use Rattle.page_styles.proofs.paths.path_above.Given as goal
