@@ -8,69 +8,85 @@ use Rattle.std.proofs.lemmas.Option.{get_or_from_slice_get, slice_get_read}
 use Rattle.value_model.specs.declared.prop.Prop.{Prop}
 use Rattle.value_model.specs.Properties.{prop_place, is_same_prop}
 use Rattle.value_laws.proofs.Places.{same-is}
+use Rattle.css_model.specs.Classes.{Text}
 use Rattle.cascade_model.specs.Applied as model
-use Rattle.cascade_model.specs.Order.{is_stronger, winner}
+use Rattle.cascade_model.specs.Kept.{Target, of_property, of_custom, is_same_target}
+use Rattle.cascade_model.specs.Order.{winner}
 use Rattle.cascade_laws.proofs.Later.{later_of, winner-later, winner-other_later}
 use Rattle.cascade_core.specs.AppliedViews.{applied_view}
-use Rattle.cascade_core.specs.Tables.{IsTable, Offers, entry, yields}
+use Rattle.cascade_core.specs.Tables.{IsTable, Offers, entry}
 use Rattle.cascade_core.specs.declared.applied.Applied.{Applied}
+use Rattle.cascade_core.specs.inner.Strength.{is_stronger, yields}
 
-not-false : (b : Bool) → not b ≡ true → b ≡ false
+pub not-false : (b : Bool) → not b ≡ true → b ≡ false
 not-false true e = absurd (false≢true e)
 not-false false e = refl
 
-not-true : (b : Bool) → not b ≡ false → b ≡ true
+pub not-true : (b : Bool) → not b ≡ false → b ≡ true
 not-true true e = refl
 not-true false e = absurd (false≢true (sym e))
 
 -- what yields is not the winner any more
-later-wins : (o : Option model.Applied) (d : model.Applied) → yields o d ≡ true → later_of o d ≡ d
-later-wins None d y = refl
-later-wins (Some w) d y = rw (not-false (is_stronger w d) y) refl
+pub later-wins : (t : Target) (o : Option Applied) (d : Applied) → yields o d ≡ true
+    → later_of (option_map (applied_view t) o) (applied_view t d) ≡ applied_view t d
+later-wins t None d y = refl
+later-wins t (Some w) d y = rw (not-false (is_stronger w d) y) refl
 
 -- what does not is
-earlier-wins : (o : Option model.Applied) (d : model.Applied) → yields o d ≡ false → Some (later_of o d) ≡ o
-earlier-wins None d y = absurd (false≢true (sym y))
-earlier-wins (Some w) d y = rw (not-true (is_stronger w d) y) refl
+pub earlier-wins : (t : Target) (o : Option Applied) (d : Applied) → yields o d ≡ false
+    → Some (later_of (option_map (applied_view t) o) (applied_view t d)) ≡ option_map (applied_view t) o
+earlier-wins t None d y = absurd (false≢true (sym y))
+earlier-wins t (Some w) d y = rw (not-true (is_stronger w d) y) refl
 
 -- where it yields
-pub taken : (old : List (Option Applied)) (later : Applied) → prop_place later.prop < length old
-    → yields (option_map applied_view (entry old later.prop)) (applied_view later) ≡ true
-    → Offers old (slice_set old (prop_place later.prop) (Some later)) (applied_view later)
-taken old later within y ds are p = elim (cases_Bool (is_same_prop p later.prop)) [
+taken : (old : List (Option Applied)) (q : Prop) (later : Applied) → prop_place q < length old
+    → yields (entry old q) later ≡ true
+    → Offers old (slice_set old (prop_place q) (Some later)) (applied_view (of_property q) later)
+taken old q later within y ds are p = elim (cases_Bool (is_same_prop p q)) [
   | inl same ↦
-      let here : p ≡ later.prop = same-is p later.prop same in
-      let entry_is : entry (slice_set old (prop_place later.prop) (Some later)) p ≡ Some later =
-      ap (entry (slice_set old (prop_place later.prop) (Some later))) here
-      ∙ get_or-set_same old (prop_place later.prop) (Some later) None within in
-      let yields_here : yields (winner p ds) (applied_view later) ≡ true =
-      ap (λ o. yields o (applied_view later)) (sym (are p))
-      ∙ (ap (λ q. yields (option_map applied_view (entry old q)) (applied_view later)) here ∙ y) in
-      ap (option_map applied_view) entry_is
-      ∙ (ap Some (sym (later-wins (winner p ds) (applied_view later) yields_here))
-      ∙ sym (winner-later p ds (applied_view later) same))
+      let here : p ≡ q = same-is p q same in
+      let entry_is : entry (slice_set old (prop_place q) (Some later)) p ≡ Some later =
+      ap (entry (slice_set old (prop_place q) (Some later))) here
+      ∙ get_or-set_same old (prop_place q) (Some later) None within in
+      let wins : winner (of_property p) (ds ++ applied_view (of_property q) later ∷ [])
+      ≡ Some (later_of (winner (of_property p) ds) (applied_view (of_property q) later)) =
+      winner-later (of_property p) ds (applied_view (of_property q) later) same in
+      let before : winner (of_property p) ds ≡ option_map (applied_view (of_property q)) (entry old q) =
+      sym (are p) ∙ ap (λ r. option_map (applied_view (of_property r)) (entry old r)) here in
+      ap (option_map (applied_view (of_property p))) entry_is
+      ∙ (ap (λ r. Some (applied_view (of_property r) later)) here
+      ∙ sym (wins ∙ (ap (λ o. Some (later_of o (applied_view (of_property q) later))) before
+      ∙ ap Some (later-wins (of_property q) (entry old q) later y))))
   | inr other ↦
-      ap (option_map applied_view)
-      (get_or-set_other old (prop_place later.prop) (prop_place p) (Some later) None
-      (eqb-false (prop_place p) (prop_place later.prop) other))
-      ∙ (are p ∙ sym (winner-other_later p ds (applied_view later) other))
+      ap (option_map (applied_view (of_property p)))
+      (get_or-set_other old (prop_place q) (prop_place p) (Some later) None
+      (eqb-false (prop_place p) (prop_place q) other))
+      ∙ (are p ∙ sym (winner-other_later (of_property p) ds (applied_view (of_property q) later) other))
 ]
 
 -- where it does not
-pub left : (old : List (Option Applied)) (later : Applied)
-    → yields (option_map applied_view (entry old later.prop)) (applied_view later) ≡ false
-    → Offers old old (applied_view later)
-left old later y ds are p = elim (cases_Bool (is_same_prop p later.prop)) [
+left : (old : List (Option Applied)) (q : Prop) (later : Applied) → yields (entry old q) later ≡ false
+    → Offers old old (applied_view (of_property q) later)
+left old q later y ds are p = elim (cases_Bool (is_same_prop p q)) [
   | inl same ↦
-      let here : p ≡ later.prop = same-is p later.prop same in
-      let yields_here : yields (winner p ds) (applied_view later) ≡ false =
-      ap (λ o. yields o (applied_view later)) (sym (are p))
-      ∙ (ap (λ q. yields (option_map applied_view (entry old q)) (applied_view later)) here ∙ y) in
+      let here : p ≡ q = same-is p q same in
+      let wins : winner (of_property p) (ds ++ applied_view (of_property q) later ∷ [])
+      ≡ Some (later_of (winner (of_property p) ds) (applied_view (of_property q) later)) =
+      winner-later (of_property p) ds (applied_view (of_property q) later) same in
+      let before : winner (of_property p) ds ≡ option_map (applied_view (of_property q)) (entry old q) =
+      sym (are p) ∙ ap (λ r. option_map (applied_view (of_property r)) (entry old r)) here in
       are p
-      ∙ (sym (earlier-wins (winner p ds) (applied_view later) yields_here)
-      ∙ sym (winner-later p ds (applied_view later) same))
-  | inr other ↦ are p ∙ sym (winner-other_later p ds (applied_view later) other)
+      ∙ (before
+      ∙ sym (wins ∙ (ap (λ o. Some (later_of o (applied_view (of_property q) later))) before
+      ∙ earlier-wins (of_property q) (entry old q) later y)))
+  | inr other ↦ are p ∙ sym (winner-other_later (of_property p) ds (applied_view (of_property q) later) other)
 ]
+
+-- of a custom property
+pub offer-custom : (old : List (Option Applied)) (name : Text) (d : model.Applied) → d.target ≡ of_custom name
+    → Offers old old d
+offer-custom old name d of ds are p =
+    are p ∙ sym (winner-other_later (of_property p) ds d (ap (is_same_target (of_property p)) of))
 
 -- ---- as code does it
 
@@ -79,32 +95,31 @@ entry-is : (old : List (Option Applied)) (p : Prop) (x : Option Applied) → pro
 entry-is old p x within is =
     get_or_from_slice_get old (prop_place p) x None (slice_get_read old (length old) (prop_place p) x refl within is)
 
-yielded-here : (old : List (Option Applied)) (later : Applied) (best : Option Applied) (place : ℕ) (b : Bool)
-    → place ≡ prop_place later.prop → place < length old → best ≡ get_or old place best
-    → b ≡ yields (option_map applied_view best) (applied_view later)
-    → yields (option_map applied_view (entry old later.prop)) (applied_view later) ≡ b
-yielded-here old later best place b at within best-is b-is =
-    ap (λ o. yields (option_map applied_view o) (applied_view later))
-    (entry-is old later.prop best (subst (λ k. k < length old) at within)
+yielded-here : (old : List (Option Applied)) (q : Prop) (later : Applied) (best : Option Applied) (place : ℕ) (b : Bool)
+    → place ≡ prop_place q → place < length old → best ≡ get_or old place best
+    → b ≡ yields best later → yields (entry old q) later ≡ b
+yielded-here old q later best place b at within best-is b-is =
+    ap (λ o. yields o later)
+    (entry-is old q best (subst (λ k. k < length old) at within)
     (subst (λ k. best ≡ get_or old k best) at best-is))
     ∙ sym b-is
 
-pub offer-taken : (old new : List (Option Applied)) (later : Applied) (best : Option Applied) (place : ℕ)
-    (b : Bool) → place ≡ prop_place later.prop → place < length old → best ≡ get_or old place best
-    → b ≡ yields (option_map applied_view best) (applied_view later) → b ≡ true
-    → new ≡ slice_set old place (Some later) → Offers old new (applied_view later)
-offer-taken old new later best place b at within best-is b-is b-true new-is =
-    subst (λ entries. Offers old entries (applied_view later))
+pub offer-taken : (old new : List (Option Applied)) (q : Prop) (later : Applied) (best : Option Applied) (place : ℕ)
+    (b : Bool) → place ≡ prop_place q → place < length old → best ≡ get_or old place best
+    → b ≡ yields best later → b ≡ true
+    → new ≡ slice_set old place (Some later) → Offers old new (applied_view (of_property q) later)
+offer-taken old new q later best place b at within best-is b-is b-true new-is =
+    subst (λ entries. Offers old entries (applied_view (of_property q) later))
     (sym (new-is ∙ ap (λ k. slice_set old k (Some later)) at))
-    (taken old later (subst (λ k. k < length old) at within)
-    (yielded-here old later best place b at within best-is b-is ∙ b-true))
+    (taken old q later (subst (λ k. k < length old) at within)
+    (yielded-here old q later best place b at within best-is b-is ∙ b-true))
 
-pub offer-left : (old : List (Option Applied)) (later : Applied) (best : Option Applied) (place : ℕ)
-    (b : Bool) → place ≡ prop_place later.prop → place < length old → best ≡ get_or old place best
-    → b ≡ yields (option_map applied_view best) (applied_view later) → b ≡ false
-    → Offers old old (applied_view later)
-offer-left old later best place b at within best-is b-is b-false =
-    left old later (yielded-here old later best place b at within best-is b-is ∙ b-false)
+pub offer-left : (old : List (Option Applied)) (q : Prop) (later : Applied) (best : Option Applied) (place : ℕ)
+    (b : Bool) → place ≡ prop_place q → place < length old → best ≡ get_or old place best
+    → b ≡ yields best later → b ≡ false
+    → Offers old old (applied_view (of_property q) later)
+offer-left old q later best place b at within best-is b-is b-false =
+    left old q later (yielded-here old q later best place b at within best-is b-is ∙ b-false)
 
 -- ---- none
 
@@ -118,4 +133,4 @@ none-more (o ∷ entries) none (suc k) = none-more entries (λ j. none (suc j)) 
 
 pub none-wins : (entries : List (Option Applied)) → ((k : ℕ) → get_or entries k None ≡ None)
     → IsTable entries []
-none-wins entries none p = ap (option_map applied_view) (none (prop_place p))
+none-wins entries none p = ap (option_map (applied_view (of_property p))) (none (prop_place p))

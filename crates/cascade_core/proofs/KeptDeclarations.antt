@@ -20,12 +20,12 @@ from-here xs i x within is =
 -- one longhand more was kept
 pub longhand-kept : (important : Bool) (kept : List Kept) (k : Kept) (longhands : List Longhand) (i : ℕ)
     (l : Longhand) → i < length longhands → l ≡ get_or longhands i l
-    → kept_view k ≡ model.with_importance important (longhand_view l)
-    → all_kept_view kept ++ map (model.with_importance important) (pairs_view (drop i longhands))
-    ≡ all_kept_view (kept ++ k ∷ []) ++ map (model.with_importance important) (pairs_view (drop (i + 1) longhands))
+    → kept_view k ≡ model.kept_longhand important (longhand_view l)
+    → all_kept_view kept ++ map (model.kept_longhand important) (pairs_view (drop i longhands))
+    ≡ all_kept_view (kept ++ k ∷ []) ++ map (model.kept_longhand important) (pairs_view (drop (i + 1) longhands))
 longhand-kept important kept k longhands i l within is seen =
-    let rest : List model.Kept = map (model.with_importance important) (pairs_view (drop (i + 1) longhands)) in
-    ap (λ ls. all_kept_view kept ++ map (model.with_importance important) (pairs_view ls)) (from-here longhands i l within is)
+    let rest : List model.Kept = map (model.kept_longhand important) (pairs_view (drop (i + 1) longhands)) in
+    ap (λ ls. all_kept_view kept ++ map (model.kept_longhand important) (pairs_view ls)) (from-here longhands i l within is)
     ∙ (ap (λ x. all_kept_view kept ++ (x ∷ rest)) (sym seen)
     ∙ (sym (append_assoc (all_kept_view kept) (kept_view k ∷ []) rest)
     ∙ ap (λ ks. ks ++ rest) (sym (map-append kept_view kept (k ∷ [])))))

@@ -4,6 +4,7 @@ pub mod RulesView
 pub mod IsDraft
 pub mod KeptDeclarations
 pub mod IsTable
+pub mod CustomWinners
 pub mod AreWinners
 pub mod BookOf
 pub mod AreDefaults
@@ -16,3 +17,7 @@ pub mod BasesOf
 pub mod RulesAt
 pub mod StyleAttribute
 pub mod PartValues
+pub mod CustomPlaces
+pub mod MadeValues
+pub mod EnvironmentShared
+pub mod StylingParts

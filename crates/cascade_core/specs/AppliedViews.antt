@@ -1,19 +1,20 @@
 -- Which declarations of the definitions apply.
 use Rattle.std.specs.Prelude.{List, map}
 use Rattle.cascade_model.specs.Applied as model
-use Rattle.cascade_model.specs.Kept.{Kept}
-use Rattle.prop_table.specs.Views.{value_view}
+use Rattle.cascade_model.specs.Kept.{Kept, Target}
+use Rattle.cascade_core.specs.Views.{kept_value_view}
 use Rattle.cascade_core.specs.declared.applied.Applied.{Applied}
 use Rattle.cascade_core.specs.declared.applied.Place.{Place}
 
-abbrev pub applied_view : Applied → model.Applied
-applied_view a = record {
+-- a declaration of this property
+abbrev pub applied_view : Target → Applied → model.Applied
+applied_view t a = record {
   origin = a.origin;
   important = a.important;
   in_attribute = a.in_attribute;
   specificity = a.specificity;
-  prop = a.prop;
-  value = value_view a.value.value;
+  target = t;
+  value = kept_value_view a.value.value;
 }
 
 -- a declaration that stands in a place
@@ -23,7 +24,7 @@ placed at k = record {
   important = k.important;
   in_attribute = at.in_attribute;
   specificity = at.specificity;
-  prop = k.prop;
+  target = k.target;
   value = k.value;
 }
 

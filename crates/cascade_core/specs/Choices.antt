@@ -1,17 +1,11 @@
 -- What a property gets.
-use Rattle.std.specs.Prelude.{Option, option_map}
+use Rattle.std.specs.Prelude.{Option}
 use Rattle.cascade_model.specs.Defaulting as model
 use Rattle.prop_table.specs.Views.{value_view}
 use Rattle.value_model.specs.Properties.{property}
-use Rattle.value_model.specs.Values.{Value}
 use Rattle.value_model.specs.declared.prop.Prop.{Prop}
-use Rattle.cascade_core.specs.declared.applied.Applied.{Applied}
 use Rattle.cascade_core.specs.declared.choices.Choice.{Choice}
 use Rattle.cascade_core.specs.declared.choices.Choice.TheVariants as choice
-
--- the value of a winner
-abbrev pub value_of : Option Applied → Option Value
-value_of best = option_map (λ a. value_view a.value.value) best
 
 abbrev pub choice_view : Option model.Style → Prop → Choice → model.Chosen
 choice_view parent p choice.Inherited = model.ready (model.inherited_value parent p)

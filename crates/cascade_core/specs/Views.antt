@@ -1,15 +1,37 @@
 -- Which rules and declarations of the definitions these are.
-use Rattle.std.specs.Prelude.{List, [], ◌∷◌, map}
+use Rattle.std.specs.Prelude.{List, [], ◌∷◌, map, Bool}
 use Rattle.cascade_model.specs.Books.{BookRule}
 use Rattle.cascade_model.specs.Kept as model
 use Rattle.cascade_core.specs.declared.kept.Kept.{Kept}
+use Rattle.cascade_core.specs.declared.kept.KeptValue.{KeptValue}
+use Rattle.cascade_core.specs.declared.kept.KeptValue.TheVariants as kept_values
+use Rattle.cascade_core.specs.declared.kept.Target.{Target}
+use Rattle.cascade_core.specs.declared.kept.Target.TheVariants as targets
 use Rattle.cascade_core.specs.declared.rule_body.RuleBody.{RuleBody}
+use Rattle.css_tokens.specs.Nested.{components_view}
 use Rattle.prop_table.specs.Views.{value_view}
 use Rattle.selectors.specs.Views.{list_view}
 use Rattle.selectors.specs.declared.rules.Rule.{Rule}
+use Rattle.value_model.specs.declared.prop.Prop.{Prop}
+
+abbrev pub target_view : Target → model.Target
+target_view (targets.Property p) = model.of_property p
+target_view (targets.Custom name) = model.of_custom name.value
+
+abbrev pub kept_value_view : KeptValue → model.KeptValue
+kept_value_view (kept_values.Read v) = model.read (value_view v)
+kept_value_view (kept_values.Whole name cs) = model.whole name.value (components_view cs.value)
 
 abbrev pub kept_view : Kept → model.Kept
-kept_view k = record { prop = k.prop; value = value_view k.value.value; important = k.important }
+kept_view k = record {
+  target = target_view k.target;
+  value = kept_value_view k.value.value;
+  important = k.important;
+}
+
+-- a declaration of a property
+abbrev pub kept_for : model.KeptValue → Bool → Prop → model.Kept
+kept_for value important p = record { target = model.of_property p; value = value; important = important }
 
 abbrev pub all_kept_view : List Kept → List model.Kept
 all_kept_view ks = map kept_view ks

@@ -2,3 +2,6 @@
 pub mod Drafts
 pub mod BothTables
 pub mod Matches
+pub mod Strength
+pub mod Customs
+pub mod Mades

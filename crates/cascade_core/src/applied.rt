@@ -1,19 +1,19 @@
 //! Declarations that apply to an element, and which of two is stronger (CSS Cascade 4, section
 //! 6.1).
 ghost use Rattle.cascade_core.specs.AppliedViews.{applied_view, placed};
-ghost use Rattle.cascade_core.specs.Views.{kept_view};
+ghost use Rattle.cascade_core.specs.Views.{kept_view, target_view};
+ghost use Rattle.cascade_core.specs.inner.Strength.{is_more_specific, is_stronger};
 ghost use Rattle.cascade_model.specs.Order as order;
 ghost use Rattle.selectors_model.specs.Specificity as specificity;
 ghost use Rattle.std.specs.Prelude.{◌≡◌, IfOk};
 
-use crate::kept::Kept;
+use crate::kept::{Kept, KeptValue};
 use cascade_model::Origin;
 use port_core::NoMemory;
-use prop_table::{Prop, Value};
 use selectors_model::Spec;
 use std::rc::Rc;
 
-/// A declaration that applies to an element.
+/// A declaration that applies to an element; what it is of is known where it is kept.
 #[derive(Debug, Drop)]
 pub(crate) struct Applied {
     pub(crate) origin: Origin,
@@ -22,8 +22,7 @@ pub(crate) struct Applied {
     pub(crate) in_attribute: bool,
     /// Of the rule that it stands in.
     pub(crate) specificity: Spec,
-    pub(crate) prop: Prop,
-    pub(crate) value: Rc<Value>,
+    pub(crate) value: Rc<KeptValue>,
 }
 
 /// Where declarations stand.
@@ -40,14 +39,14 @@ pub(crate) struct Place {
 impl Place {
     /// The declaration that applies, where `kept` stands here. It shares the value.
     pub(crate) fn applied(&self, kept: &Kept) -> Result<Applied, NoMemory>
-        ensures { IfOk result (λ a. applied_view a ≡ placed self.now (kept_view kept.now)) }
+        ensures { IfOk result (λ a. applied_view (target_view kept.now.target) a
+            ≡ placed self.now (kept_view kept.now)) }
     {
         Ok(Applied {
             origin: self.origin,
             important: kept.important,
             in_attribute: self.in_attribute,
             specificity: self.specificity,
-            prop: kept.prop,
             value: kept.value.clone()?,
         })
     }
@@ -55,7 +54,7 @@ impl Place {
 
 /// Whether `a` is stronger than `b`, wherever each of them stands.
 pub(crate) fn is_stronger(a: &Applied, b: &Applied) -> bool
-    ensures { result ≡ order.is_stronger (applied_view a.now) (applied_view b.now) }
+    ensures { result ≡ is_stronger a.now b.now }
 {
     let here = level_of(a);
     let there = level_of(b);
@@ -67,7 +66,7 @@ pub(crate) fn is_stronger(a: &Applied, b: &Applied) -> bool
 }
 
 fn level_of(a: &Applied) -> u8
-    ensures { result ≡ order.level_of (applied_view a.now) }
+    ensures { result ≡ order.level a.now.origin a.now.important }
 {
     level(a.origin, a.important)
 }
@@ -86,7 +85,7 @@ fn level(origin: Origin, important: bool) -> u8
 
 /// A `style` attribute before rules, and then the specificity.
 fn is_more_specific(a: &Applied, b: &Applied) -> bool
-    ensures { result ≡ order.is_more_specific (applied_view a.now) (applied_view b.now) }
+    ensures { result ≡ is_more_specific a.now b.now }
 {
     if a.in_attribute == b.in_attribute {
         is_less_spec(b.specificity, a.specificity)

@@ -2,11 +2,11 @@
 ghost use Rattle.cascade_core.specs.AppliedViews.{all_placed};
 ghost use Rattle.cascade_core.specs.Books.{AreInBook, book_view, rules_at};
 ghost use Rattle.cascade_core.specs.Views.{all_kept_view};
-ghost use Rattle.cascade_core.specs.WinnersView.{winners_view};
+ghost use Rattle.cascade_core.specs.WinnersView.{cascaded_view};
 ghost use Rattle.cascade_core.specs.inner.BothTables.{Takes};
 ghost use Rattle.cascade_core.specs.inner.Matches.{applied_at, applied_at_all, place_of};
 ghost use Rattle.cascade_model.specs.Applied.{applied_of};
-ghost use Rattle.cascade_model.specs.Defaulting.{winners_of};
+ghost use Rattle.cascade_model.specs.Cascaded.{cascaded_of};
 ghost use Rattle.cascade_model.specs.Kept as model;
 ghost use Rattle.css_rules.specs.Views.{declarations_view};
 ghost use Rattle.std.specs.Prelude.{◌≡◌, ◌<◌, IfOk, OnOk, length};
@@ -38,8 +38,8 @@ pub fn winning<L: Drop>(
 ) -> Result<Winners, NoMemory>
     requires numbers { AreInBook matched.now.pairs (book_view book.now) }
     requires answered { length answers.now ≡ length matched.now.pairs }
-    ensures { IfOk result (λ w. winners_view w
-        ≡ winners_of (applied_of (rules_at (book_view book.now) matched.now.pairs) answers.now
+    ensures { IfOk result (λ w. cascaded_view w
+        ≡ cascaded_of (applied_of (rules_at (book_view book.now) matched.now.pairs) answers.now
         (model.kept_declarations (declarations_view inline.now)))) }
 {
     let mut tables = no_winners(alloc)?;
@@ -47,6 +47,7 @@ pub fn winning<L: Drop>(
     let kept = kept_declarations(alloc, inline)?;
     take_all(&mut tables, ATTRIBUTE, kept.as_slice())?;
     Ok(Winners {
+        custom: tables.customs.declared(alloc)?,
         all: tables.all,
         user_agent: tables.user_agent,
         defaults: book.defaults.share()?,

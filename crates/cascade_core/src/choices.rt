@@ -1,14 +1,14 @@
 //! What a property gets: the value that wins, or what is inherited or initial (CSS Cascade 4,
 //! sections 4.3, 4.4 and 7).
-ghost use Rattle.cascade_core.specs.Choices.{choice_view, value_of};
-ghost use Rattle.cascade_core.specs.WinnersView.{winners_view};
+ghost use Rattle.cascade_core.specs.Choices.{choice_view};
+ghost use Rattle.cascade_core.specs.Givens.{given_view};
 ghost use Rattle.cascade_model.specs.Defaulting as model;
 ghost use Rattle.prop_table.specs.Views.{value_view};
 ghost use Rattle.std.specs.Option.{option_copied};
 ghost use Rattle.std.specs.Prelude.{◌≡◌, Option, Some, option_map};
 
-use crate::applied::Applied;
-use crate::winners::Winners;
+use crate::given::Given;
+use crate::made::value_that_wins;
 use prop_table::{Color, Prop, Value, WideKeyword, inherits, prop_place};
 
 /// What a property gets.
@@ -24,23 +24,27 @@ pub(crate) enum Choice<'a> {
 
 /// What `prop` gets: by the value that wins, or for `revert` by the one that wins among those of
 /// the user agent.
-pub(crate) fn choice_for(w: &Winners, prop: Prop) -> Choice<'_>
+pub(crate) fn choice_for<'a>(g: &Given<'a>, prop: Prop) -> Choice<'a>
     ensures { (parent : Option model.Style) → choice_view parent prop result
-        ≡ model.choice parent (winners_view w.now) prop }
+        ≡ model.choice parent (given_view g.now).winners prop }
 {
-    let best = w.all.get(prop);
+    let best = value_that_wins(&g.winners.all, g.made.all.as_slice(), prop);
     if is_revert(best) {
-        choice_of(prop, w.user_agent.get(prop))
+        let among_user_agent = &g.winners.user_agent;
+        choice_of(
+            prop,
+            value_that_wins(among_user_agent, g.made.user_agent.as_slice(), prop),
+        )
     } else {
         choice_of(prop, best)
     }
 }
 
-fn is_revert(best: Option<&Applied>) -> bool
-    ensures { result ≡ model.is_revert (value_of (option_copied best.entry)) }
+fn is_revert(best: Option<&Value>) -> bool
+    ensures { result ≡ model.is_revert (option_map value_view (option_copied best.entry)) }
 {
     match best {
-        Some(best) => is_revert_value(&best.value),
+        Some(best) => is_revert_value(best),
         None => false,
     }
 }
@@ -54,12 +58,12 @@ fn is_revert_value(value: &Value) -> bool
     }
 }
 
-fn choice_of(prop: Prop, best: Option<&Applied>) -> Choice<'_>
+fn choice_of(prop: Prop, best: Option<&Value>) -> Choice<'_>
     ensures { (parent : Option model.Style) → choice_view parent prop result
-        ≡ model.choice_of parent prop (value_of (option_copied best.entry)) }
+        ≡ model.choice_of parent prop (option_map value_view (option_copied best.entry)) }
 {
     match best {
-        Some(best) => choice_of_value(prop, &best.value),
+        Some(best) => choice_of_value(prop, best),
         None => unset(prop),
     }
 }

@@ -1,10 +1,10 @@
 //! The style of an element of a document (CSS Cascade 4, section 4).
 ghost use Rattle.cascade_core.specs.Books.{book_view};
 ghost use Rattle.cascade_core.specs.StyledView.{styled_view};
-ghost use Rattle.cascade_model.specs.Defaulting.{winners_of};
+ghost use Rattle.cascade_model.specs.Cascaded.{cascaded_of};
 ghost use Rattle.cascade_model.specs.DocumentStyles as model;
 ghost use Rattle.cascade_model.specs.Kept.{kept_declarations};
-ghost use Rattle.cascade_model.specs.StyleEquation.{style_of};
+ghost use Rattle.cascade_model.specs.Styling.{styling_of};
 ghost use Rattle.css_rules.specs.Views.{declarations_view};
 ghost use Rattle.page_model.specs.Document.{name_at};
 ghost use Rattle.selectors.specs.Rooms.{empty_room};
@@ -47,8 +47,8 @@ pub fn styled_element<L: Drop>(
 ) -> Result<Styled<L>, NoMemory>
     requires element { IsSome (name_at id doc.now.document.root) }
     requires room { length (book_view book.now) ≤ room.old.room }
-    ensures style { IfOk result (λ s. styled_view s ≡ style_of (record {
-      winners = winners_of (model.applied_to (book_view book.now) doc.now.document.root id);
+    ensures style { IfOk result (λ s. styled_view s ≡ styling_of (record {
+      cascaded = cascaded_of (model.applied_to (book_view book.now) doc.now.document.root id);
       parent = option_map styled_view (option_copied parent.entry);
       bases = b.now;
     })) }

@@ -1,27 +1,48 @@
 //! The declarations of a block that are kept, a shorthand as its longhands (CSS Syntax 3, section
-//! 5.4.6; CSS Cascade 4, section 3).
-ghost use Rattle.cascade_core.specs.Views.{all_kept_view};
+//! 5.4.6; CSS Cascade 4, section 3; CSS Custom Properties 1, sections 2 and 3).
+ghost use Rattle.cascade_core.specs.Views.{all_kept_view, kept_for, kept_value_view};
 ghost use Rattle.cascade_model.specs.Kept as model;
 ghost use Rattle.css_rules.specs.Views.{declaration_view, declarations_view};
+ghost use Rattle.css_tokens.specs.Nested.{components_view};
+ghost use Rattle.custom_model.specs.References as references;
 ghost use Rattle.prop_table.specs.Views.{pairs_view};
-ghost use Rattle.std.specs.Prelude.{◌≡◌, ◌∷◌, [], ◌++◌, IfOk, OnOk};
-ghost use Rattle.std.specs.Prelude.{map, option_and_then, option_map};
-ghost use Rattle.value_model.specs.Grammar as grammar;
+ghost use Rattle.std.specs.Prelude.{◌≡◌, [], ◌∷◌, ◌++◌, IfOk, OnOk, map};
 
+use crate::longhands::{longhands_of, props_of_name};
 use crate::shared::shared;
 use css_rules::{Declaration, Declarations};
-use port_core::{NoMemory, Seq};
-use prop_table::{Longhand, Pairs, Prop, Value, expand_shorthand, property_of_name, read_value};
+use css_tokens::Components;
+use custom_props::{copy_of, has_right_vars, has_var, is_custom_name, is_custom_value};
+use port_core::{NoMemory, Seq, Text};
+use prop_table::{Pairs, Prop, Value};
 use std::alloc::Global;
 use std::rc::Rc;
+
+/// What a declaration gives a value to.
+#[derive(Debug, Drop)]
+pub(crate) enum Target {
+    /// A property.
+    Property(Prop),
+    /// The custom property of this name.
+    Custom(Rc<Text>),
+}
+
+/// A value that is kept.
+#[derive(Debug, Drop)]
+pub(crate) enum KeptValue {
+    /// One that was read.
+    Read(Value),
+    /// Component values that are read after substitution, and the name in the declaration.
+    Whole(Rc<Text>, Rc<Components>),
+}
 
 /// A declaration of one property.
 #[derive(Debug, Drop)]
 pub(crate) struct Kept {
     /// The property.
-    pub(crate) prop: Prop,
+    pub(crate) target: Target,
     /// Its value, which those who win share.
-    pub(crate) value: Rc<Value>,
+    pub(crate) value: Rc<KeptValue>,
     /// Whether it was written with `!important`.
     pub(crate) important: bool,
 }
@@ -46,7 +67,96 @@ fn keep(alloc: Global, declaration: &Declaration, kept: &mut Seq<Kept>) -> Resul
     ensures { OnOk result (all_kept_view kept.new
         ≡ all_kept_view kept.old ++ model.kept_of (declaration_view declaration.now)) }
 {
-    match longhands_of(alloc, declaration)? {
+    if is_custom_name(declaration.name.as_str()) {
+        keep_custom(alloc, declaration, kept)
+    } else if is_kept_whole(&declaration.value) {
+        keep_whole(alloc, declaration, kept)
+    } else {
+        keep_read(alloc, declaration, kept)
+    }
+}
+
+/// Whether a value of a property is kept until its `var()` are replaced.
+fn is_kept_whole(value: &Components) -> bool
+    ensures { result ≡ references.is_kept_whole (components_view value.now) }
+{
+    has_var(value) && has_right_vars(value)
+}
+
+/// Appends the declaration of a custom property, if its value is right.
+fn keep_custom(
+    alloc: Global,
+    declaration: &Declaration,
+    kept: &mut Seq<Kept>,
+) -> Result<(), NoMemory>
+    ensures { OnOk result (all_kept_view kept.new
+        ≡ all_kept_view kept.old ++ model.kept_custom (declaration_view declaration.now)) }
+{
+    if !is_custom_value(&declaration.value) {
+        return Ok(());
+    }
+    let name = shared(alloc, declaration.name.copy(alloc)?)?;
+    let components = shared(alloc, copy_of(alloc, declaration.value.as_slice())?)?;
+    let value = shared(alloc, KeptValue::Whole(name.clone()?, components))?;
+    kept.push(Kept {
+        target: Target::Custom(name),
+        value,
+        important: declaration.important,
+    })
+}
+
+/// Appends the whole value for each property that the name of the declaration stands for.
+fn keep_whole(
+    alloc: Global,
+    declaration: &Declaration,
+    kept: &mut Seq<Kept>,
+) -> Result<(), NoMemory>
+    ensures { OnOk result (all_kept_view kept.new
+        ≡ all_kept_view kept.old ++ model.kept_whole (declaration_view declaration.now)) }
+{
+    let props = props_of_name(alloc, &declaration.name)?;
+    let value = whole_value(alloc, declaration)?;
+    keep_for_each(props.as_slice(), &value, declaration.important, kept)
+}
+
+/// The value of a declaration, to be read after substitution.
+fn whole_value(alloc: Global, declaration: &Declaration) -> Result<Rc<KeptValue>, NoMemory>
+    ensures { IfOk result (λ v. kept_value_view v.value
+        ≡ model.whole (declaration_view declaration.now).name
+        (declaration_view declaration.now).value) }
+{
+    let name = shared(alloc, declaration.name.copy(alloc)?)?;
+    let components = shared(alloc, copy_of(alloc, declaration.value.as_slice())?)?;
+    shared(alloc, KeptValue::Whole(name, components))
+}
+
+/// Appends a declaration of each property, with this value.
+fn keep_for_each(
+    props: &[Prop],
+    value: &Rc<KeptValue>,
+    important: bool,
+    kept: &mut Seq<Kept>,
+) -> Result<(), NoMemory>
+    ensures { OnOk result (all_kept_view kept.new
+        ≡ all_kept_view kept.old
+        ++ map (λ p. kept_for (kept_value_view value.now.value) important p) props.now) }
+{
+    for prop in props {
+        kept.push(Kept {
+            target: Target::Property(*prop),
+            value: value.clone()?,
+            important,
+        })?;
+    }
+    Ok(())
+}
+
+/// Appends the values that a declaration gives to properties, if its name and its value are right.
+fn keep_read(alloc: Global, declaration: &Declaration, kept: &mut Seq<Kept>) -> Result<(), NoMemory>
+    ensures { OnOk result (all_kept_view kept.new
+        ≡ all_kept_view kept.old ++ model.kept_read (declaration_view declaration.now)) }
+{
+    match longhands_of(alloc, &declaration.name, &declaration.value)? {
         Some(longhands) => keep_longhands(alloc, &longhands, declaration.important, kept),
         None => Ok(()),
     }
@@ -61,51 +171,14 @@ fn keep_longhands(
 ) -> Result<(), NoMemory>
     ensures { OnOk result (all_kept_view kept.new
         ≡ all_kept_view kept.old
-        ++ map (model.with_importance important) (pairs_view longhands.now)) }
+        ++ map (model.kept_longhand important) (pairs_view longhands.now)) }
 {
     for longhand in longhands.as_slice() {
         kept.push(Kept {
-            prop: longhand.prop,
-            value: shared(alloc, longhand.value.copy(alloc)?)?,
+            target: Target::Property(longhand.prop),
+            value: shared(alloc, KeptValue::Read(longhand.value.copy(alloc)?))?,
             important,
         })?;
     }
     Ok(())
-}
-
-/// The values that a declaration gives to properties, if its name and its value are right.
-fn longhands_of(alloc: Global, declaration: &Declaration) -> Result<Option<Pairs>, NoMemory>
-    ensures { IfOk result (λ ls. option_map pairs_view ls
-        ≡ model.longhands_of (declaration_view declaration.now)) }
-{
-    match own_longhand(alloc, declaration)? {
-        Some(longhands) => Ok(Some(longhands)),
-        None => expand_shorthand(alloc, declaration.name.as_str(), &declaration.value),
-    }
-}
-
-/// The value that a declaration gives to the property of its name.
-fn own_longhand(alloc: Global, declaration: &Declaration) -> Result<Option<Pairs>, NoMemory>
-    ensures { IfOk result (λ ls. option_map pairs_view ls
-        ≡ option_and_then
-        (λ p. option_map (λ v. (p, v) ∷ [])
-        (grammar.value_of p (declaration_view declaration.now).value))
-        (grammar.property_of_name (declaration_view declaration.now).name)) }
-{
-    let prop = match property_of_name(&declaration.name) {
-        Some(prop) => prop,
-        None => return Ok(None),
-    };
-    match read_value(alloc, prop, &declaration.value)? {
-        Some(value) => Ok(Some(only(alloc, prop, value)?)),
-        None => Ok(None),
-    }
-}
-
-fn only(alloc: Global, prop: Prop, value: Value) -> Result<Pairs, NoMemory>
-    ensures { IfOk result (λ ls. ls ≡ record { prop = prop; value = value } ∷ []) }
-{
-    let mut pairs = Seq::new(alloc);
-    pairs.push(Longhand { prop, value })?;
-    Ok(pairs)
 }

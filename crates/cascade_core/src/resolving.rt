@@ -118,7 +118,7 @@ fn value_of(alloc: Global, g: &Given<'_>, b: &Bases, prop: Prop) -> Result<Final
         ≡ defaulting.value_of_property (given_view g.now).winners (given_view g.now).parent b.now
         g.now.bases.em prop) }
 {
-    match choice_for(g.winners, prop) {
+    match choice_for(g, prop) {
         Choice::Inherited => inherited(alloc, g.parent, prop),
         Choice::Initial => Ok(initial(alloc, prop)),
         Choice::Declared(value) => compute(alloc, prop, value, b, g.bases.em),

@@ -1,8 +1,10 @@
 //! For each property, the declaration that wins so far (CSS Cascade 4, section 6.1).
 ghost use Rattle.cascade_core.specs.AppliedViews.{applied_view};
-ghost use Rattle.cascade_core.specs.Tables.{IsTable, Offers, entry, yields};
+ghost use Rattle.cascade_core.specs.Tables.{IsTable, Offers, entry};
+ghost use Rattle.cascade_core.specs.inner.Strength.{yields};
+ghost use Rattle.cascade_model.specs.Kept.{of_property};
 ghost use Rattle.std.specs.Option.{option_copied};
-ghost use Rattle.std.specs.Prelude.{◌≡◌, [], ◌∷◌, IfOk, length, option_map};
+ghost use Rattle.std.specs.Prelude.{◌≡◌, [], ◌∷◌, IfOk, length};
 
 use crate::applied::{Applied, is_stronger};
 use port_core::{NoMemory, Seq};
@@ -22,10 +24,11 @@ impl Model for Table {
 
     ghost Value = { List (Option applied) };
 
+    ghost use Rattle.css_tokens.specs.contracts.component.Component as a_component;
     ghost use Rattle.query_units.specs.contracts.length.Length as a_length;
     ghost use Rattle.std.specs.Coded.{codes};
 
-    ghost coded = { Prim.hlevel (codes, a_length.the_row.coded) };
+    ghost coded = { Prim.hlevel (codes, a_length.the_row.coded, a_component.the_row.coded) };
 
     ghost view = { λ t. t.entries };
 
@@ -49,11 +52,18 @@ impl Table {
         self.entries.as_slice()[prop_place(prop)].as_ref()
     }
 
-    /// Takes a declaration that appears later than all before it.
-    pub(crate) fn offer(&mut self, later: Applied)
-        ensures { Offers self.old self.new (applied_view later) }
+    /// The declarations, by the places of properties.
+    pub(crate) fn as_slice(&self) -> &[Option<Applied>]
+        ensures { result.now ≡ self.now }
     {
-        let place = prop_place(later.prop);
+        self.entries.as_slice()
+    }
+
+    /// Takes a declaration of `prop` that appears later than all before it.
+    pub(crate) fn offer(&mut self, prop: Prop, later: Applied)
+        ensures { Offers self.old self.new (applied_view (of_property prop) later) }
+    {
+        let place = prop_place(prop);
         if yields(&self.entries.as_slice()[place], &later) {
             self.entries.set(place, Some(later));
         }
@@ -74,7 +84,7 @@ fn nothing(alloc: Global) -> Result<Seq<Option<Applied>>, NoMemory>
 
 /// Whether the one that wins so far yields to one that appears later.
 fn yields(best: &Option<Applied>, later: &Applied) -> bool
-    ensures { result ≡ yields (option_map applied_view best.now) (applied_view later.now) }
+    ensures { result ≡ yields best.now later.now }
 {
     match best {
         None => true,

@@ -6,7 +6,7 @@ use Rattle.page_laws.proofs.Find.{find-top, named-some}
 use Rattle.page_laws.proofs.IsAmong.{is_among-true}
 use Rattle.page_laws.proofs.Options.{if-found, none-or-some, or-found}
 use Rattle.page_model.specs.Document.{IsAmong, Node, Nodes, element, find, find_in, id_of, ids_of, is_among, name_at, name_of, no_nodes, node, parent_below, parent_in, parent_of, text}
-use Rattle.cascade_model.specs.Defaulting.{Style}
+use Rattle.cascade_model.specs.Styling.{Styling}
 use Rattle.cascade_model.specs.DocumentStyles.{AllStyledBelow, AreStyled, AreStyledBelow, Page, Styles, child_style, root_style}
 use Rattle.cascade_laws.proofs.Parentless.{parentless-root}
 use Rattle.cascade_laws.specs.Styles.{IsChildOfStyled, root_font_size}
@@ -14,17 +14,17 @@ use Rattle.cascade_laws.specs.Styles.{IsChildOfStyled, root_font_size}
 -- ---- trees of which the top has a given style
 
 -- the top, if it is an element, has this style, and those below it have their styles
-abbrev pub IsStyledAt : Page → Style → ℤ → Styles → Node → Type 0
+abbrev pub IsStyledAt : Page → Styling → ℤ → Styles → Node → Type 0
 IsStyledAt page style rem styles (element i name attributes children) =
     (styles i ≡ Some style) × AllStyledBelow page style rem styles children
 IsStyledAt page style rem styles (text i cs) = styles i ≡ None
 
-pub below-at : (page : Page) (parent : Style) (rem : ℤ) (styles : Styles) (n : Node)
+pub below-at : (page : Page) (parent : Styling) (rem : ℤ) (styles : Styles) (n : Node)
     → AreStyledBelow page parent rem styles n → IsStyledAt page (child_style page parent rem (id_of n)) rem styles n
 below-at page parent rem styles (element i name attributes children) h = h
 below-at page parent rem styles (text i cs) h = h
 
-pub at-below : (page : Page) (parent : Style) (rem : ℤ) (styles : Styles) (n : Node)
+pub at-below : (page : Page) (parent : Styling) (rem : ℤ) (styles : Styles) (n : Node)
     → IsStyledAt page (child_style page parent rem (id_of n)) rem styles n → AreStyledBelow page parent rem styles n
 at-below page parent rem styles (element i name attributes children) h = h
 at-below page parent rem styles (text i cs) h = h
@@ -64,7 +64,7 @@ unnamed true n m found none named =
 unnamed false n m found none named = none-some m found
 
 mutual
-  some-at : (page : Page) (style : Style) (rem : ℤ) (styles : Styles) (n : Node) → IsStyledAt page style rem styles n
+  some-at : (page : Page) (style : Styling) (rem : ℤ) (styles : Styles) (n : Node) → IsStyledAt page style rem styles n
       → (i : ℕ) (m : Node) → find i n ≡ Some m → IsSome (name_of m) → IsSome (styles i)
   some-at page style rem styles (element id name attributes children) h i m found named =
       elim (if-found (i == id) (element id name attributes children) m (find_in i children) found) [
@@ -74,7 +74,7 @@ mutual
   some-at page style rem styles (text id cs) h i m found named =
       absurd (unnamed (i == id) (text id cs) m found refl named)
 
-  some-below : (page : Page) (style : Style) (rem : ℤ) (styles : Styles) (ns : Nodes) → AllStyledBelow page style rem styles ns
+  some-below : (page : Page) (style : Styling) (rem : ℤ) (styles : Styles) (ns : Nodes) → AllStyledBelow page style rem styles ns
       → (i : ℕ) (m : Node) → find_in i ns ≡ Some m → IsSome (name_of m) → IsSome (styles i)
   some-below page style rem styles no_nodes h i m found named = absurd (none-some m found)
   some-below page style rem styles (node n ns) h i m found named = elim (or-found (find i n) (find_in i ns) m found) [
@@ -91,7 +91,7 @@ element-some page styles root h i named =
 -- ---- and no two
 
 mutual
-  same-at : (page : Page) (style : Style) (rem : ℤ) (a b : Styles) (n : Node)
+  same-at : (page : Page) (style : Styling) (rem : ℤ) (a b : Styles) (n : Node)
       → IsStyledAt page style rem a n → IsStyledAt page style rem b n
       → (i : ℕ) (m : Node) → find i n ≡ Some m → IsSome (name_of m) → a i ≡ b i
   same-at page style rem a b (element id name attributes children) h k i m found named =
@@ -102,7 +102,7 @@ mutual
   same-at page style rem a b (text id cs) h k i m found named =
       absurd (unnamed (i == id) (text id cs) m found refl named)
 
-  same-below : (page : Page) (style : Style) (rem : ℤ) (a b : Styles) (ns : Nodes)
+  same-below : (page : Page) (style : Styling) (rem : ℤ) (a b : Styles) (ns : Nodes)
       → AllStyledBelow page style rem a ns → AllStyledBelow page style rem b ns
       → (i : ℕ) (m : Node) → find_in i ns ≡ Some m → IsSome (name_of m) → a i ≡ b i
   same-below page style rem a b no_nodes h k i m found named = absurd (none-some m found)
@@ -124,10 +124,10 @@ element-same page a b root h k i named =
 -- a style above, and that of a child of what has it
 abbrev ChildOf : Page → ℤ → Styles → ℕ → ℕ → Type 0
 ChildOf page rem styles i p =
-    (parent : Style) × (styles p ≡ Some parent) × (styles i ≡ Some (child_style page parent rem i))
+    (parent : Styling) × (styles p ≡ Some parent) × (styles i ≡ Some (child_style page parent rem i))
 
 -- one of the tops that has a style
-top-style : (page : Page) (style : Style) (rem : ℤ) (styles : Styles) (ns : Nodes) → AllStyledBelow page style rem styles ns
+top-style : (page : Page) (style : Styling) (rem : ℤ) (styles : Styles) (ns : Nodes) → AllStyledBelow page style rem styles ns
     → (i : ℕ) → IsAmong i (ids_of ns) → IsSome (styles i) → styles i ≡ Some (child_style page style rem i)
 top-style page style rem styles no_nodes h i among some = absurd among
 top-style page style rem styles (node (element id name attributes children) ns) h i (inl e) some =
@@ -137,7 +137,7 @@ top-style page style rem styles (node (text id cs) ns) h i (inl e) some =
 top-style page style rem styles (node n ns) h i (inr k) some = top-style page style rem styles ns h.1 i k some
 
 mutual
-  child-at : (page : Page) (style : Style) (rem : ℤ) (styles : Styles) (n : Node) → IsStyledAt page style rem styles n
+  child-at : (page : Page) (style : Styling) (rem : ℤ) (styles : Styles) (n : Node) → IsStyledAt page style rem styles n
       → (i : ℕ) (x : Node) → parent_in i n ≡ Some x → IsSome (styles i) → ChildOf page rem styles i (id_of x)
   child-at page style rem styles (element id name attributes children) h i x up some =
       elim (if-found (is_among i (ids_of children)) (element id name attributes children) x (parent_below i children) up) [
@@ -149,7 +149,7 @@ mutual
       ]
   child-at page style rem styles (text id cs) h i x up some = absurd (none-some x up)
 
-  child-below : (page : Page) (style : Style) (rem : ℤ) (styles : Styles) (ns : Nodes) → AllStyledBelow page style rem styles ns
+  child-below : (page : Page) (style : Styling) (rem : ℤ) (styles : Styles) (ns : Nodes) → AllStyledBelow page style rem styles ns
       → (i : ℕ) (x : Node) → parent_below i ns ≡ Some x → IsSome (styles i) → ChildOf page rem styles i (id_of x)
   child-below page style rem styles no_nodes h i x up some = absurd (none-some x up)
   child-below page style rem styles (node n ns) h i x up some = elim (or-found (parent_in i n) (parent_below i ns) x up) [
@@ -178,7 +178,7 @@ child-style page styles root h i p named up =
     }
 
 -- the same of a parent whose style is known
-pub child-of-known : (page : Page) (styles : Styles) (root : Node) (i p : ℕ) (style : Style) → AreStyled page styles root
+pub child-of-known : (page : Page) (styles : Styles) (root : Node) (i p : ℕ) (style : Styling) → AreStyled page styles root
     → IsSome (name_at i root) → parent_of i root ≡ Some p → styles p ≡ Some style
     → styles i ≡ Some (child_style page style (root_font_size page root) i)
 child-of-known page styles root i p style h named up known =

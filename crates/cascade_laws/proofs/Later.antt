@@ -2,9 +2,8 @@
 use Rattle.std.proofs.Common.{◌≡◌, ◌∙◌, ap, sym, refl, List, [], ◌∷◌, ◌++◌, true, false, inl, inr, if◌then◌else◌}
 use Rattle.std.specs.Prelude.{Option, Some, None}
 use Rattle.std.proofs.lemmas.Bool.{cases_Bool, false≢true}
-use Rattle.value_model.specs.declared.prop.Prop.{Prop}
-use Rattle.value_model.specs.Properties.{is_same_prop}
 use Rattle.cascade_model.specs.Applied.{Applied}
+use Rattle.cascade_model.specs.Kept.{Target, is_same_target}
 use Rattle.cascade_model.specs.Order.{is_stronger, winner, stronger_of}
 use Rattle.cascade_laws.proofs.Strength.{stronger-one_way, stronger-between}
 
@@ -46,18 +45,18 @@ meet : (e : Applied) (o : Option Applied) (d : Applied)
 meet e None d = meet-two e d
 meet e (Some w) d = meet-three e w d
 
-pub winner-later : (p : Prop) (ds : List Applied) (d : Applied) → is_same_prop p d.prop ≡ true
-    → winner p (ds ++ (d ∷ [])) ≡ Some (later_of (winner p ds) d)
-winner-later p [] d h = rw h refl
-winner-later p (e ∷ ds) d h = elim (cases_Bool (is_same_prop p e.prop)) [
-  | inl same ↦ rw same (ap (stronger_of e) (winner-later p ds d h) ∙ meet e (winner p ds) d)
-  | inr other ↦ rw other (winner-later p ds d h)
+pub winner-later : (t : Target) (ds : List Applied) (d : Applied) → is_same_target t d.target ≡ true
+    → winner t (ds ++ (d ∷ [])) ≡ Some (later_of (winner t ds) d)
+winner-later t [] d h = rw h refl
+winner-later t (e ∷ ds) d h = elim (cases_Bool (is_same_target t e.target)) [
+  | inl same ↦ rw same (ap (stronger_of e) (winner-later t ds d h) ∙ meet e (winner t ds) d)
+  | inr other ↦ rw other (winner-later t ds d h)
 ]
 
-pub winner-other_later : (p : Prop) (ds : List Applied) (d : Applied) → is_same_prop p d.prop ≡ false
-    → winner p (ds ++ (d ∷ [])) ≡ winner p ds
-winner-other_later p [] d h = rw h refl
-winner-other_later p (e ∷ ds) d h = elim (cases_Bool (is_same_prop p e.prop)) [
-  | inl same ↦ rw same (ap (stronger_of e) (winner-other_later p ds d h))
-  | inr other ↦ rw other (winner-other_later p ds d h)
+pub winner-other_later : (t : Target) (ds : List Applied) (d : Applied) → is_same_target t d.target ≡ false
+    → winner t (ds ++ (d ∷ [])) ≡ winner t ds
+winner-other_later t [] d h = rw h refl
+winner-other_later t (e ∷ ds) d h = elim (cases_Bool (is_same_target t e.target)) [
+  | inl same ↦ rw same (ap (stronger_of e) (winner-other_later t ds d h))
+  | inr other ↦ rw other (winner-other_later t ds d h)
 ]

@@ -1,4 +1,5 @@
 pub mod Strength
+pub mod Targets
 pub mod Winning
 pub mod Values
 pub mod Later

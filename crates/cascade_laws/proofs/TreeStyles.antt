@@ -7,19 +7,19 @@ use Rattle.page_laws.proofs.IsAmong.{among-left, among-other, among-right, disti
 use Rattle.page_laws.proofs.Options.{none-or-some}
 use Rattle.page_model.specs.Document.{AreDistinct, IsAmong, Node, Nodes, all_ids, element, find, find_in, id_of, ids, name_of, no_nodes, node, or_else, text}
 use Rattle.page_model.specs.Trees.{Attribute, Text}
-use Rattle.cascade_model.specs.Defaulting.{Style}
+use Rattle.cascade_model.specs.Styling.{Styling}
 use Rattle.cascade_model.specs.DocumentStyles.{AllStyledBelow, AreStyled, Page, Styles, child_style, root_style}
 use Rattle.cascade_laws.specs.Styles.{HasNoOther, root_font_size}
 use Rattle.cascade_laws.proofs.AreStyled.{IsStyledAt, at-below, at-root}
 
 -- the style of the element `i` of a tree whose top has this style
 abbrev mutual
-  pub style_at : Page → ℤ → Style → ℕ → Node → Option Style
+  pub style_at : Page → ℤ → Styling → ℕ → Node → Option Styling
   style_at page rem style i (element id name attributes children) =
       if i == id then Some style else style_among page rem style i children
   style_at page rem style i (text id cs) = None
 
-  pub style_among : Page → ℤ → Style → ℕ → Nodes → Option Style
+  pub style_among : Page → ℤ → Styling → ℕ → Nodes → Option Styling
   style_among page rem style i no_nodes = None
   style_among page rem style i (node n ns) =
       or_else (style_at page rem (child_style page style rem (id_of n)) i n) (style_among page rem style i ns)
@@ -31,7 +31,7 @@ styles_of page root i = style_at page (root_font_size page root) (root_style pag
 -- ---- what is not in a tree has no style in it
 
 mutual
-  absent-at : (page : Page) (rem : ℤ) (style : Style) (i : ℕ) (n : Node) → (IsAmong i (ids n) → ⊥)
+  absent-at : (page : Page) (rem : ℤ) (style : Styling) (i : ℕ) (n : Node) → (IsAmong i (ids n) → ⊥)
       → style_at page rem style i n ≡ None
   absent-at page rem style i (element id name attributes children) out = elim (cases_Bool (i == id)) [
     | inl t ↦ absurd (out (inl (eqb-true i id t)))
@@ -39,7 +39,7 @@ mutual
   ]
   absent-at page rem style i (text id cs) out = refl
 
-  absent-among : (page : Page) (rem : ℤ) (style : Style) (i : ℕ) (ns : Nodes) → (IsAmong i (all_ids ns) → ⊥)
+  absent-among : (page : Page) (rem : ℤ) (style : Styling) (i : ℕ) (ns : Nodes) → (IsAmong i (all_ids ns) → ⊥)
       → style_among page rem style i ns ≡ None
   absent-among page rem style i no_nodes out = refl
   absent-among page rem style i (node n ns) out =
@@ -54,7 +54,7 @@ named-none None h = inl refl
 named-none (Some x) h = inr (x, refl, h)
 
 mutual
-  unnamed-at : (page : Page) (rem : ℤ) (style : Style) (i : ℕ) (n : Node) → AreDistinct (ids n)
+  unnamed-at : (page : Page) (rem : ℤ) (style : Styling) (i : ℕ) (n : Node) → AreDistinct (ids n)
       → option_and_then name_of (find i n) ≡ None → style_at page rem style i n ≡ None
   unnamed-at page rem style i (element id name attributes children) d h = elim (cases_Bool (i == id)) [
     | inl t ↦ absurd (none-some name (sym (rw t at h)))
@@ -62,7 +62,7 @@ mutual
   ]
   unnamed-at page rem style i (text id cs) d h = refl
 
-  unnamed-among : (page : Page) (rem : ℤ) (style : Style) (i : ℕ) (ns : Nodes) → AreDistinct (all_ids ns)
+  unnamed-among : (page : Page) (rem : ℤ) (style : Styling) (i : ℕ) (ns : Nodes) → AreDistinct (all_ids ns)
       → option_and_then name_of (find_in i ns) ≡ None → style_among page rem style i ns ≡ None
   unnamed-among page rem style i no_nodes d h = refl
   unnamed-among page rem style i (node n ns) d h = elim (none-or-some (find i n)) [
@@ -79,14 +79,14 @@ mutual
 -- ---- a part of a tree has the same styles as the whole
 
 -- an id of this tree has the style that it has by itself
-abbrev Gives : Page → ℤ → Style → Styles → Node → Type 0
+abbrev Gives : Page → ℤ → Styling → Styles → Node → Type 0
 Gives page rem style styles n = (i : ℕ) → IsAmong i (ids n) → styles i ≡ style_at page rem style i n
 
 -- the same of these trees
-abbrev GivesAll : Page → ℤ → Style → Styles → Nodes → Type 0
+abbrev GivesAll : Page → ℤ → Styling → Styles → Nodes → Type 0
 GivesAll page rem style styles ns = (i : ℕ) → IsAmong i (all_ids ns) → styles i ≡ style_among page rem style i ns
 
-gives-children : (page : Page) (rem : ℤ) (style : Style) (styles : Styles) (id : ℕ) (name : Text) (attributes : List Attribute) (children : Nodes)
+gives-children : (page : Page) (rem : ℤ) (style : Styling) (styles : Styles) (id : ℕ) (name : Text) (attributes : List Attribute) (children : Nodes)
     → AreDistinct (ids (element id name attributes children)) → Gives page rem style styles (element id name attributes children)
     → GivesAll page rem style styles children
 gives-children page rem style styles id name attributes children d f = λ i h.
@@ -98,7 +98,7 @@ or-absent : {X : Type 0} (o p : Option X) → p ≡ None → or_else o p ≡ o
 or-absent (Some x) p e = refl
 or-absent None p e = e
 
-gives-first : (page : Page) (rem : ℤ) (style : Style) (styles : Styles) (n : Node) (ns : Nodes)
+gives-first : (page : Page) (rem : ℤ) (style : Styling) (styles : Styles) (n : Node) (ns : Nodes)
     → AreDistinct (all_ids (node n ns)) → GivesAll page rem style styles (node n ns)
     → Gives page rem (child_style page style rem (id_of n)) styles n
 gives-first page rem style styles n ns d f = λ i h.
@@ -106,7 +106,7 @@ gives-first page rem style styles n ns d f = λ i h.
     ∙ or-absent (style_at page rem (child_style page style rem (id_of n)) i n) (style_among page rem style i ns)
     (absent-among page rem style i ns (λ k. distinct-apart i (ids n) (all_ids ns) d h k))
 
-gives-rest : (page : Page) (rem : ℤ) (style : Style) (styles : Styles) (n : Node) (ns : Nodes)
+gives-rest : (page : Page) (rem : ℤ) (style : Styling) (styles : Styles) (n : Node) (ns : Nodes)
     → AreDistinct (all_ids (node n ns)) → GivesAll page rem style styles (node n ns) → GivesAll page rem style styles ns
 gives-rest page rem style styles n ns d f = λ i h.
     f i (among-right i (ids n) (all_ids ns) h)
@@ -115,13 +115,13 @@ gives-rest page rem style styles n ns d f = λ i h.
 
 -- ---- they are the styles of the cascade
 
-style-top : (page : Page) (rem : ℤ) (style : Style) (id : ℕ) (name : Text) (attributes : List Attribute) (children : Nodes)
+style-top : (page : Page) (rem : ℤ) (style : Styling) (id : ℕ) (name : Text) (attributes : List Attribute) (children : Nodes)
     → style_at page rem style id (element id name attributes children) ≡ Some style
 style-top page rem style id name attributes children =
     ap (λ b. cond b (Some style) (style_among page rem style id children)) (eq-eqb id id refl)
 
 mutual
-  styled-at : (page : Page) (rem : ℤ) (style : Style) (styles : Styles) (n : Node) → AreDistinct (ids n)
+  styled-at : (page : Page) (rem : ℤ) (style : Styling) (styles : Styles) (n : Node) → AreDistinct (ids n)
       → Gives page rem style styles n → IsStyledAt page style rem styles n
   styled-at page rem style styles (element id name attributes children) d f = (
     f id (inl refl) ∙ style-top page rem style id name attributes children,
@@ -130,7 +130,7 @@ mutual
   )
   styled-at page rem style styles (text id cs) d f = f id (inl refl)
 
-  styled-among : (page : Page) (rem : ℤ) (style : Style) (styles : Styles) (ns : Nodes) → AreDistinct (all_ids ns)
+  styled-among : (page : Page) (rem : ℤ) (style : Styling) (styles : Styles) (ns : Nodes) → AreDistinct (all_ids ns)
       → GivesAll page rem style styles ns → AllStyledBelow page style rem styles ns
   styled-among page rem style styles no_nodes d f = tt
   styled-among page rem style styles (node n ns) d f = (

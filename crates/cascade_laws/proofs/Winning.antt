@@ -4,12 +4,11 @@ use Rattle.std.specs.Prelude.{Option, Some, None, is_some, unwrap_or}
 use Rattle.std.specs.List.{slice_get}
 use Rattle.std.proofs.lemmas.Bool.{cases_Bool, eqb-false, eqb-true, false≢true}
 use Rattle.std.proofs.lemmas.Bool.Decides.{nat_tests}
-use Rattle.value_model.specs.declared.prop.Prop.{Prop}
-use Rattle.value_model.specs.Properties.{is_same_prop}
-use Rattle.value_laws.proofs.Places.{same-is, is-same}
 use Rattle.cascade_model.specs.Applied.{Applied}
+use Rattle.cascade_model.specs.Kept.{Target, is_same_target}
 use Rattle.cascade_model.specs.Order.{is_stronger, outranks, IsWinner, winner, stronger_of}
 use Rattle.cascade_laws.specs.Winners.{Beats}
+use Rattle.cascade_laws.proofs.Targets.{same-target, target-same}
 use Rattle.cascade_laws.proofs.Strength.{stronger-one_way, stronger-between}
 
 -- ---- the order
@@ -46,13 +45,13 @@ in-order d e m n different = elim (cases_Bool (is_stronger d e)) [
 differs : (m n : ℕ) → (m == n) ≡ false → m ≢ n
 differs m n f e = eqb-false m n f e
 
-pub one-winner : (ds : List Applied) (p : Prop) (m n : ℕ) (d e : Applied)
-    → IsWinner ds p m d → IsWinner ds p n e → m ≡ n
-one-winner ds p m n d e w v = elim (cases_Bool (m == n)) [
+pub one-winner : (ds : List Applied) (t : Target) (m n : ℕ) (d e : Applied)
+    → IsWinner ds t m d → IsWinner ds t n e → m ≡ n
+one-winner ds t m n d e w v = elim (cases_Bool (m == n)) [
   | inl t ↦ eqb-true m n t
   | inr f ↦ elim (in-order d e m n (differs m n f)) [
-    | inl b ↦ absurd (false≢true (sym (v.not_outranked m d w.stands w.of_property) ∙ b.first))
-    | inr b ↦ absurd (false≢true (sym (w.not_outranked n e v.stands v.of_property) ∙ b.first))
+    | inl b ↦ absurd (false≢true (sym (v.not_outranked m d w.stands w.of_target) ∙ b.first))
+    | inr b ↦ absurd (false≢true (sym (w.not_outranked n e v.stands v.of_target) ∙ b.first))
   ]
 ]
 
@@ -69,26 +68,26 @@ stronger-some d (Some e) = elim (cases_Bool (is_stronger d e)) [
 ]
 
 -- the first declaration of a list by itself
-winner-first : (p : Prop) (d : Applied) (ds : List Applied) → is_same_prop p d.prop ≡ true
-    → winner p (d ∷ ds) ≡ stronger_of d (winner p ds)
-winner-first p d ds h = rw h refl
+winner-first : (t : Target) (d : Applied) (ds : List Applied) → is_same_target t d.target ≡ true
+    → winner t (d ∷ ds) ≡ stronger_of d (winner t ds)
+winner-first t d ds h = rw h refl
 
-winner-other : (p : Prop) (d : Applied) (ds : List Applied) → is_same_prop p d.prop ≡ false
-    → winner p (d ∷ ds) ≡ winner p ds
-winner-other p d ds h = rw h refl
+winner-other : (t : Target) (d : Applied) (ds : List Applied) → is_same_target t d.target ≡ false
+    → winner t (d ∷ ds) ≡ winner t ds
+winner-other t d ds h = rw h refl
 
-pub none-placed : (ds : List Applied) (p : Prop) (n : ℕ) (e : Applied)
-    → winner p ds ≡ None → slice_get ds n ≡ Some e → is_same_prop p e.prop ≡ false
-none-placed [] p n e w g = absurd (false≢true (ap is_some g))
-none-placed (d ∷ ds) p zero e w g =
+pub none-placed : (ds : List Applied) (t : Target) (n : ℕ) (e : Applied)
+    → winner t ds ≡ None → slice_get ds n ≡ Some e → is_same_target t e.target ≡ false
+none-placed [] t n e w g = absurd (false≢true (ap is_some g))
+none-placed (d ∷ ds) t zero e w g =
     let same : d ≡ e = same-some d e g in
-    elim (cases_Bool (is_same_prop p d.prop)) [
-      | inl h ↦ absurd (false≢true (sym (ap is_some w) ∙ (ap is_some (winner-first p d ds h) ∙ stronger-some d (winner p ds))))
-      | inr h ↦ ap (λ x. is_same_prop p x.prop) (sym same) ∙ h
+    elim (cases_Bool (is_same_target t d.target)) [
+      | inl h ↦ absurd (false≢true (sym (ap is_some w) ∙ (ap is_some (winner-first t d ds h) ∙ stronger-some d (winner t ds))))
+      | inr h ↦ ap (λ x. is_same_target t x.target) (sym same) ∙ h
     ]
-none-placed (d ∷ ds) p (suc n) e w g = elim (cases_Bool (is_same_prop p d.prop)) [
-  | inl h ↦ absurd (false≢true (sym (ap is_some w) ∙ (ap is_some (winner-first p d ds h) ∙ stronger-some d (winner p ds))))
-  | inr h ↦ none-placed ds p n e (sym (winner-other p d ds h) ∙ w) g
+none-placed (d ∷ ds) t (suc n) e w g = elim (cases_Bool (is_same_target t d.target)) [
+  | inl h ↦ absurd (false≢true (sym (ap is_some w) ∙ (ap is_some (winner-first t d ds h) ∙ stronger-some d (winner t ds))))
+  | inr h ↦ none-placed ds t n e (sym (winner-other t d ds h) ∙ w) g
 ]
 
 -- a declaration does not outrank itself
@@ -132,96 +131,96 @@ not-by-first d e n s = elim (cases_Bool (is_stronger e d)) [
 -- ---- the winner of a list with one more in front
 
 -- the one in front, where nothing after it is of the property
-first-alone : (p : Prop) (d : Applied) (ds : List Applied) → is_same_prop p d.prop ≡ true → winner p ds ≡ None
-    → IsWinner (d ∷ ds) p 0 d
-first-alone p d ds h w = record {
+first-alone : (t : Target) (d : Applied) (ds : List Applied) → is_same_target t d.target ≡ true → winner t ds ≡ None
+    → IsWinner (d ∷ ds) t 0 d
+first-alone t d ds h w = record {
   stands = refl;
-  of_property = sym (same-is p d.prop h);
+  of_target = sym (same-target t d.target h);
   not_outranked = others;
 }
   where
-    others : (n : ℕ) (e : Applied) → slice_get (d ∷ ds) n ≡ Some e → e.prop ≡ p
+    others : (n : ℕ) (e : Applied) → slice_get (d ∷ ds) n ≡ Some e → e.target ≡ t
         → outranks e n d 0 ≡ false
     others zero e g same = ap (λ x. outranks x 0 d 0) (sym (same-some d e g)) ∙ not-itself d 0
-    others (suc n) e g same = absurd (false≢true (sym (none-placed ds p n e w g) ∙ is-same p e.prop (sym same)))
+    others (suc n) e g same = absurd (false≢true (sym (none-placed ds t n e w g) ∙ target-same t e.target (sym same)))
 
 -- the one in front, where it is stronger than the winner of those after it
-first-stronger : (p : Prop) (d e : Applied) (ds : List Applied) (k : ℕ) → is_same_prop p d.prop ≡ true
-    → IsWinner ds p k e → is_stronger d e ≡ true → IsWinner (d ∷ ds) p 0 d
-first-stronger p d e ds k h w s = record {
+first-stronger : (t : Target) (d e : Applied) (ds : List Applied) (k : ℕ) → is_same_target t d.target ≡ true
+    → IsWinner ds t k e → is_stronger d e ≡ true → IsWinner (d ∷ ds) t 0 d
+first-stronger t d e ds k h w s = record {
   stands = refl;
-  of_property = sym (same-is p d.prop h);
+  of_target = sym (same-target t d.target h);
   not_outranked = others;
 }
   where
-    others : (n : ℕ) (f : Applied) → slice_get (d ∷ ds) n ≡ Some f → f.prop ≡ p
+    others : (n : ℕ) (f : Applied) → slice_get (d ∷ ds) n ≡ Some f → f.target ≡ t
         → outranks f n d 0 ≡ false
     others zero f g same = ap (λ x. outranks x 0 d 0) (sym (same-some d f g)) ∙ not-itself d 0
     others (suc n) f g same =
         not-by-weaker d f n (stronger-between d e f s (not-stronger e f k n (w.not_outranked n f g same)))
 
 -- the winner of those after it, where the one in front is not stronger
-behind-first : (p : Prop) (d e : Applied) (ds : List Applied) (k : ℕ) → IsWinner ds p k e
-    → is_stronger d e ≡ false → IsWinner (d ∷ ds) p (suc k) e
-behind-first p d e ds k w s = record {
+behind-first : (t : Target) (d e : Applied) (ds : List Applied) (k : ℕ) → IsWinner ds t k e
+    → is_stronger d e ≡ false → IsWinner (d ∷ ds) t (suc k) e
+behind-first t d e ds k w s = record {
   stands = w.stands;
-  of_property = w.of_property;
+  of_target = w.of_target;
   not_outranked = others;
 }
   where
-    others : (n : ℕ) (f : Applied) → slice_get (d ∷ ds) n ≡ Some f → f.prop ≡ p
+    others : (n : ℕ) (f : Applied) → slice_get (d ∷ ds) n ≡ Some f → f.target ≡ t
         → outranks f n e (suc k) ≡ false
     others zero f g same = ap (λ x. outranks x 0 e (suc k)) (sym (same-some d f g)) ∙ not-by-first d e k s
     others (suc n) f g same = not-outranked-behind e f k n (w.not_outranked n f g same)
 
 -- the winner of those after it, where the one in front is of another property
-behind-other : (p : Prop) (d e : Applied) (ds : List Applied) (k : ℕ) → IsWinner ds p k e
-    → is_same_prop p d.prop ≡ false → IsWinner (d ∷ ds) p (suc k) e
-behind-other p d e ds k w h = record {
+behind-other : (t : Target) (d e : Applied) (ds : List Applied) (k : ℕ) → IsWinner ds t k e
+    → is_same_target t d.target ≡ false → IsWinner (d ∷ ds) t (suc k) e
+behind-other t d e ds k w h = record {
   stands = w.stands;
-  of_property = w.of_property;
+  of_target = w.of_target;
   not_outranked = others;
 }
   where
-    others : (n : ℕ) (f : Applied) → slice_get (d ∷ ds) n ≡ Some f → f.prop ≡ p
+    others : (n : ℕ) (f : Applied) → slice_get (d ∷ ds) n ≡ Some f → f.target ≡ t
         → outranks f n e (suc k) ≡ false
     others zero f g same =
-        absurd (false≢true (sym h ∙ (ap (λ x. is_same_prop p x.prop) (same-some d f g) ∙ is-same p f.prop (sym same))))
+        absurd (false≢true (sym h ∙ (ap (λ x. is_same_target t x.target) (same-some d f g) ∙ target-same t f.target (sym same))))
     others (suc n) f g same = not-outranked-behind e f k n (w.not_outranked n f g same)
 
 -- ---- the winner is found
 
 -- where the first is of the property, by what is found after it
-found-first : (o : Option Applied) (p : Prop) (d e : Applied) (ds : List Applied) → is_same_prop p e.prop ≡ true
-    → winner p ds ≡ o → ((f : Applied) → winner p ds ≡ Some f → (n : ℕ) × IsWinner ds p n f)
-    → stronger_of e o ≡ Some d → (n : ℕ) × IsWinner (e ∷ ds) p n d
-found-first None p d e ds h w behind g =
-    (0, subst (λ x. IsWinner (e ∷ ds) p 0 x) (same-some e d g) (first-alone p e ds h w))
-found-first (Some f) p d e ds h w behind g = elim (cases_Bool (is_stronger e f)) [
+found-first : (o : Option Applied) (t : Target) (d e : Applied) (ds : List Applied) → is_same_target t e.target ≡ true
+    → winner t ds ≡ o → ((f : Applied) → winner t ds ≡ Some f → (n : ℕ) × IsWinner ds t n f)
+    → stronger_of e o ≡ Some d → (n : ℕ) × IsWinner (e ∷ ds) t n d
+found-first None t d e ds h w behind g =
+    (0, subst (λ x. IsWinner (e ∷ ds) t 0 x) (same-some e d g) (first-alone t e ds h w))
+found-first (Some f) t d e ds h w behind g = elim (cases_Bool (is_stronger e f)) [
   | inl s ↦
       let picked : Some e ≡ Some d = sym (ap (λ b. if b then Some e else Some f) s) ∙ g in (
         0,
-        subst (λ x. IsWinner (e ∷ ds) p 0 x) (same-some e d picked)
-            (first-stronger p e f ds (behind f w).0 h (behind f w).1 s),
+        subst (λ x. IsWinner (e ∷ ds) t 0 x) (same-some e d picked)
+            (first-stronger t e f ds (behind f w).0 h (behind f w).1 s),
       )
   | inr s ↦
       let picked : Some f ≡ Some d = sym (ap (λ b. if b then Some e else Some f) s) ∙ g in (
         suc (behind f w).0,
-        subst (λ x. IsWinner (e ∷ ds) p (suc (behind f w).0) x) (same-some f d picked)
-            (behind-first p e f ds (behind f w).0 (behind f w).1 s),
+        subst (λ x. IsWinner (e ∷ ds) t (suc (behind f w).0) x) (same-some f d picked)
+            (behind-first t e f ds (behind f w).0 (behind f w).1 s),
       )
 ]
 
-pub found : (ds : List Applied) (p : Prop) (d : Applied) → winner p ds ≡ Some d → (n : ℕ) × IsWinner ds p n d
-found [] p d w = absurd (false≢true (ap is_some w))
-found (e ∷ ds) p d w = elim (cases_Bool (is_same_prop p e.prop)) [
-  | inl h ↦ found-first (winner p ds) p d e ds h refl (found ds p) (sym (winner-first p e ds h) ∙ w)
+pub found : (ds : List Applied) (t : Target) (d : Applied) → winner t ds ≡ Some d → (n : ℕ) × IsWinner ds t n d
+found [] t d w = absurd (false≢true (ap is_some w))
+found (e ∷ ds) t d w = elim (cases_Bool (is_same_target t e.target)) [
+  | inl h ↦ found-first (winner t ds) t d e ds h refl (found ds t) (sym (winner-first t e ds h) ∙ w)
   | inr h ↦
-      let behind : (n : ℕ) × IsWinner ds p n d = found ds p d (sym (winner-other p e ds h) ∙ w) in
-      (suc behind.0, behind-other p e d ds behind.0 behind.1 h)
+      let behind : (n : ℕ) × IsWinner ds t n d = found ds t d (sym (winner-other t e ds h) ∙ w) in
+      (suc behind.0, behind-other t e d ds behind.0 behind.1 h)
 ]
 
 -- where nothing is found, none is of the property
-pub none-of : (ds : List Applied) (p : Prop) (n : ℕ) (e : Applied)
-    → winner p ds ≡ None → slice_get ds n ≡ Some e → e.prop ≢ p
-none-of ds p n e w g same = false≢true (sym (none-placed ds p n e w g) ∙ is-same p e.prop (sym same))
+pub none-of : (ds : List Applied) (t : Target) (n : ℕ) (e : Applied)
+    → winner t ds ≡ None → slice_get ds n ≡ Some e → e.target ≢ t
+none-of ds t n e w g same = false≢true (sym (none-placed ds t n e w g) ∙ target-same t e.target (sym same))

@@ -1,7 +1,8 @@
 -- What holds of the styles of a document.
 use Rattle.std.specs.Prelude.{ℕ, ℤ, ◌≡◌, Some, None, IsSome}
 use Rattle.page_model.specs.Document.{Node, AreDistinct, ids, id_of, name_of, name_at, parent_of}
-use Rattle.cascade_model.specs.Defaulting.{Style, font_size_in}
+use Rattle.cascade_model.specs.Defaulting.{font_size_in}
+use Rattle.cascade_model.specs.Styling.{Styling}
 use Rattle.cascade_model.specs.DocumentStyles.{Page, Styles, AreStyled, child_style, root_style}
 
 -- what is no element has no style
@@ -35,11 +36,11 @@ HaveOneRoot = (root : Node) (i : ℕ) → IsSome (name_at i root) → parent_of 
 
 -- the font size of the root
 abbrev pub root_font_size : Page → Node → ℤ
-root_font_size page root = font_size_in (root_style page (id_of root))
+root_font_size page root = font_size_in (root_style page (id_of root)).style
 
 -- the parent `p` has a style, and the element `i` has the style of its child
 pub record IsChildOfStyled (page : Page) (styles : Styles) (root : Node) (i p : ℕ) : Type 0 where
-  pub parent : Style
+  pub parent : Styling
   pub above : styles p ≡ Some parent
   pub own : styles i ≡ Some (child_style page parent (root_font_size page root) i)
 

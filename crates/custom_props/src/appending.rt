@@ -12,11 +12,19 @@ use crate::env::Env;
 use crate::named_value::NamedValue;
 use crate::names::compare;
 use css_tokens::Components;
-use port_core::{NoMemory, Text};
+use port_core::{NoMemory, Seq, Text};
 use std::cmp::Ordering;
 use std::rc::Rc;
 
 impl Env {
+    /// Returns these names with their values, which stand in order of name.
+    pub fn from_values(values: Seq<NamedValue>) -> Env
+        requires { are_in_order (names_of (values_view values)) ≡ true }
+        ensures { env_view result ≡ values_view values }
+    {
+        Env { values }
+    }
+
     /// Appends `name` with `value` and returns `true`, if each name so far is less; and else returns
     /// `false`.
     pub fn append(&mut self, name: Text, value: Rc<Components>) -> Result<bool, NoMemory>

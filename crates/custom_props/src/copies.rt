@@ -5,8 +5,8 @@ use css_tokens::{Component, Components, Token};
 use port_core::{NoMemory, Seq};
 use std::alloc::Global;
 
-/// Copies component values.
-pub(crate) fn copy_of(alloc: Global, components: &[Component]) -> Result<Components, NoMemory>
+/// Returns a copy of component values.
+pub fn copy_of(alloc: Global, components: &[Component]) -> Result<Components, NoMemory>
     ensures { IfOk result (λ copy. copy ≡ components.now) }
 {
     let mut copy = Seq::from_vec(Vec::with_capacity(alloc, components.len())?);

@@ -29,7 +29,10 @@ mod table;
 mod token_kind;
 mod values;
 
+pub use copies::copy_of;
 pub use env::{Declared, Env};
+pub use named_value::NamedValue;
+pub use names::compare;
 pub use references::is_custom_name;
 pub use resolving::resolve_env;
 pub use substituted::Substituted;

@@ -18,7 +18,7 @@ fn order_of_two(c: char, d: char) -> Ordering
 }
 
 /// Returns how `a` stands to `b` in the order by code points.
-pub(crate) fn compare(a: &str, b: &str) -> Ordering
+pub fn compare(a: &str, b: &str) -> Ordering
     ensures { result ≡ order_of (chars a.now) (chars b.now) }
 {
     let mut left = a.chars();

@@ -1,7 +1,7 @@
 //! Shorthands, and the values that they give their longhands (CSS Cascade 4, sections 3 and 3.2).
 ghost use Rattle.css_tokens.specs.Nested.{components_view};
 ghost use Rattle.prop_table.specs.Views.{pairs_view};
-ghost use Rattle.prop_table.specs.inner.ShorthandViews.{borders_view, shorthand_view, wide_longhands};
+ghost use Rattle.prop_table.specs.inner.ShorthandViews.{shorthand_view, wide_longhands};
 ghost use Rattle.std.specs.Prelude.{◌≡◌, ◌∷◌, ◌++◌, IfOk, OnOk, [], option_and_then, option_map};
 ghost use Rattle.std.specs.Str.{chars};
 ghost use Rattle.value_model.specs.Shorthands as shorthands;
@@ -11,8 +11,8 @@ use crate::background::background_values_of;
 use crate::borders::border_values_of;
 use crate::container::container_values_of;
 use crate::longhand::{Longhand, Pairs};
-use crate::prop_order::all_props;
-use crate::shorthand::{Border, Shorthand, shorthand_of_name};
+use crate::longhands::longhands;
+use crate::shorthand::{Shorthand, shorthand_of_name};
 use crate::sides::{each_of_four, each_of_two};
 use crate::value::Value;
 use css_tokens::{Component, Components};
@@ -79,22 +79,8 @@ fn wide_values(alloc: Global, shorthand: Shorthand, wide: WideKeyword) -> Result
     ensures { IfOk result (λ ps. pairs_view ps
         ≡ wide_longhands wide (shorthands.longhands (shorthand_view shorthand))) }
 {
-    match shorthand {
-        Shorthand::FourSides(sides) => {
-            wide_for_each(
-                alloc,
-                &[sides.top, sides.right, sides.bottom, sides.left],
-                wide,
-            )
-        }
-        Shorthand::TwoSides(start, end) => wide_for_each(alloc, &[start, end], wide),
-        Shorthand::Borders(sides) => wide_borders(alloc, sides, wide),
-        Shorthand::Background => wide_for_each(alloc, &[Prop::BackgroundColor], wide),
-        Shorthand::Container => {
-            wide_for_each(alloc, &[Prop::ContainerName, Prop::ContainerType], wide)
-        }
-        Shorthand::All => wide_for_each(alloc, all_props(), wide),
-    }
+    let props = longhands(alloc, shorthand)?;
+    wide_for_each(alloc, props.as_slice(), wide)
 }
 
 fn wide_for_each(alloc: Global, props: &[Prop], wide: WideKeyword) -> Result<Pairs, NoMemory>
@@ -103,19 +89,6 @@ fn wide_for_each(alloc: Global, props: &[Prop], wide: WideKeyword) -> Result<Pai
     let mut pairs = Seq::new(alloc);
     for prop in props {
         push_wide(*prop, wide, &mut pairs)?;
-    }
-    Ok(pairs)
-}
-
-fn wide_borders(alloc: Global, sides: &[Border], wide: WideKeyword) -> Result<Pairs, NoMemory>
-    ensures { IfOk result (λ ps. pairs_view ps
-        ≡ wide_longhands wide (shorthands.border_longhands (borders_view sides.now))) }
-{
-    let mut pairs = Seq::new(alloc);
-    for side in sides {
-        push_wide(side.width, wide, &mut pairs)?;
-        push_wide(side.style, wide, &mut pairs)?;
-        push_wide(side.color, wide, &mut pairs)?;
     }
     Ok(pairs)
 }

@@ -7,6 +7,7 @@ use Rattle.cascade_core.specs.Views.{all_kept_view}
 use Rattle.cascade_core.specs.declared.winners.Winners.{Winners}
 use Rattle.cascade_core.specs.inner.BothTables.{AreWinners}
 use Rattle.cascade_core.specs.inner.Matches.{applied_at_all}
+use Rattle.cascade_core.proofs.CustomWinners.{customs-are}
 use Rattle.cascade_core.proofs.Matches.{applied-are}
 use Rattle.cascade_core.proofs.WinnersView.{winners-are}
 use Rattle.cascade_core.proofs.cascading.winning.Goals as goal
@@ -26,6 +27,7 @@ returns g c =
     c.args.book.now.paired c.requires.numbers))
     (ap (map model.applied_in_attribute) (ap all_kept_view c.as_slice-2.ensures ∙ c.in_ok-kept.ensures)) in
     let w : Winners = record {
+      custom = c.in_ok-declared.field-0;
       all = c.take_all.new.tables.all;
       user_agent = c.take_all.new.tables.user_agent;
       defaults = c.in_ok-share.field-0;
@@ -33,3 +35,6 @@ returns g c =
     let end = subst (AreWinners c.take_all.new.tables) same both in
     winners-are w (model.applied_of (rules_at (book_view c.args.book.now) c.args.matched.now.pairs) c.args.answers.now
     (kept_declarations (declarations_view c.args.inline.now))) end.all end.user_agent
+    (c.in_ok-declared.ensures ∙ customs-are c.take_all.new.tables.customs.entries.items
+    (model.applied_of (rules_at (book_view c.args.book.now) c.args.matched.now.pairs) c.args.answers.now
+    (kept_declarations (declarations_view c.args.inline.now))) end.customs)
