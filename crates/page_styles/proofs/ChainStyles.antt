@@ -1,39 +1,47 @@
 -- Styles from the root down.
-use Rattle.std.proofs.Common.{◌≡◌, ◌∙◌, ap, ap₂, sym, subst, refl, ◌⊎◌, ℕ, zero, suc, ◌-◌, ◌==◌, ℤ, List, [], ◌∷◌, ◌++◌, append-nil, length, take, drop, slice_index_or, true, false, Option, Some, None, Result, Ok, Err, OnErr, eqb-true, arith}
+use Rattle.std.proofs.Common.{◌≡◌, ◌∙◌, ap, ap₂, sym, subst, refl, ◌⊎◌, ℕ, zero, suc, ◌-◌, ◌==◌, ℤ, List, [], ◌∷◌, ◌++◌, append-nil, length, take, drop, slice_index_or, true, false, Option, Some, None, Result, Ok, Err, OnErr, OnOk, eqb-true, arith}
 use Rattle.std.specs.Prelude.{IsSome}
 use Rattle.cascade_laws.proofs.Parentless.{parentless-root}
 use Rattle.page_model.specs.Document.{AreDistinct, Node, ids, name_at, parent_of}
 use Rattle.selectors.proofs.AncestorsOf.{parent-element}
 use Rattle.stream_model.specs.Ledger.{Event, pair, pairs}
-use Rattle.stream_model.specs.declared.kind.Kind.TheVariants.{Match}
-use Rattle.page_styles.proofs.IsPathAbove.{begun-before, begun-on}
+use Rattle.stream_model.specs.declared.kind.Kind.TheVariants.{Match, Style as styling}
+use Rattle.page_styles.proofs.IsPathAbove.{begun-before, begun-on, logged-on}
 use Rattle.page_styles.specs.Paths.{IsPathAbove, log_below, style_below}
 use Rattle.page_styles.specs.Styles.{IsBegun}
 use Rattle.cascade_laws.specs.Styles.{root_font_size}
-use Rattle.cascade_model.specs.Defaulting.{Style, font_size_in, winners_of}
+use Rattle.cascade_model.specs.Cascaded.{cascaded_of}
+use Rattle.cascade_model.specs.Defaulting.{font_size_in}
 use Rattle.cascade_model.specs.DocumentStyles.{Page, applied_to, bases_in, child_style, initial_font_size, root_style}
-use Rattle.cascade_model.specs.StyleEquation.{style_of}
+use Rattle.cascade_model.specs.Styling.{Styling, styling_of}
 use Rattle.page_model.specs.Document.{id_of}
 use Rattle.value_model.specs.declared.length_unit.Bases.{Bases}
 
 -- the style of an element of a page, by its parent and by what lengths refer to
-abbrev pub style_by : Page → ℕ → Option Style → Bases → Style
-style_by page i parent b = style_of (record {
-  winners = winners_of (applied_to page.book page.viewport page.root i);
+abbrev pub style_by : Page → ℕ → Option Styling → Bases → Styling
+style_by page i parent b = styling_of (record {
+  cascaded = cascaded_of (applied_to page.book page.viewport page.root i);
   parent = parent;
   bases = b;
 })
 
-pub at-root : (page : Page) (i : ℕ) (s : Style) (parent : Option Style) (b : Bases) (e : ℤ) → s ≡ style_by page i parent b
+pub at-root : (page : Page) (i : ℕ) (s : Styling) (parent : Option Styling) (b : Bases) (e : ℤ) → s ≡ style_by page i parent b
     → parent ≡ None → b ≡ bases_in page.viewport e e → e ≡ initial_font_size → s ≡ root_style page i
 at-root page i s parent b e h alone bases initial =
     h ∙ (ap (λ p. style_by page i p b) alone
     ∙ ap (style_by page i None) (bases ∙ ap (λ x. bases_in page.viewport x x) initial))
 
-pub font-of-root : (page : Page) (i : ℕ) (s : Style) (rem : ℤ) → s ≡ root_style page i → i ≡ id_of page.root
-    → rem ≡ font_size_in s → rem ≡ root_font_size page page.root
+pub font-of-root : (page : Page) (i : ℕ) (s : Styling) (rem : ℤ) → s ≡ root_style page i → i ≡ id_of page.root
+    → rem ≡ font_size_in s.style → rem ≡ root_font_size page page.root
 font-of-root page i s rem is top size =
-    size ∙ (ap font_size_in is ∙ ap (λ j. font_size_in (root_style page j)) top)
+    size ∙ (ap (λ x. font_size_in x.style) is ∙ ap (λ j. font_size_in (root_style page j).style) top)
+
+-- the style of a child, by the one of its parent
+pub of-child : (page : Page) (i : ℕ) (s above : Styling) (parent : Option Styling) (b : Bases) (em rem : ℤ) → s ≡ style_by page i parent b
+    → parent ≡ Some above → b ≡ bases_in page.viewport em rem → em ≡ font_size_in above.style → s ≡ child_style page above rem i
+of-child page i s above parent b em rem h is bases size =
+    h ∙ (ap (λ p. style_by page i p b) is
+    ∙ ap (style_by page i (Some above)) (bases ∙ ap (λ x. bases_in page.viewport x rem) size))
 
 -- ---- one step up
 
@@ -57,6 +65,12 @@ pub top-is : (root : Node) (i : ℕ) (above : List ℕ) → IsSome (name_at i ro
     → i ≡ id_of root
 top-is root i above named path h = parentless-root root i named (none-above root i above path h)
 
+-- nothing is above the root
+pub root-below : (page : Page) (i : ℕ) (above : List ℕ) → (length above == 0) ≡ true → root_style page i ≡ style_below page i above
+root-below page i [] h = refl
+root-below page i (p ∷ above) h =
+    let none : length (p ∷ above) ≡ 0 = eqb-true (length (p ∷ above)) 0 h in absurd (omega (arith, none))
+
 -- the step from an element to its parent
 pub record StepUp (root : Node) (i p : ℕ) (rest above : List ℕ) : Type 0 where
   pub parts : above ≡ p ∷ rest
@@ -70,10 +84,19 @@ step-up root i p rest above d parts path =
     record { parts = parts; path = both.1; named = parent-element i p root d both.0 }
 
 -- the style of a child is that below its parent
-pub child-below : (page : Page) (i p : ℕ) (rest above : List ℕ) (s : Style) (rem : ℤ) → above ≡ p ∷ rest
+pub child-below : (page : Page) (i p : ℕ) (rest above : List ℕ) (s : Styling) (rem : ℤ) → above ≡ p ∷ rest
     → s ≡ style_below page p rest → rem ≡ root_font_size page page.root → child_style page s rem i ≡ style_below page i above
 child-below page i p rest above s rem parts style size =
     ap₂ (λ x e. child_style page x e i) style size ∙ ap (style_below page i) (sym parts)
+
+-- ---- work that was done
+
+pub logged-child : {T E : Type 0} (r : Result T E) (i p : ℕ) (rest above : List ℕ) (old mid new : List Event) → above ≡ p ∷ rest
+    → mid ≡ old ++ pairs (log_below p rest) → OnOk r (new ≡ mid ++ pair Match i ∷ pair styling i ∷ [])
+    → OnOk r (new ≡ old ++ pairs (log_below i above))
+logged-child (Err x) i p rest above old mid new parts e h = tt
+logged-child (Ok x) i p rest above old mid new parts e h =
+    subst (λ xs. new ≡ old ++ pairs (log_below i xs)) (sym parts) (logged-on i (log_below p rest) old mid new e h)
 
 -- ---- work that was begun
 

@@ -7,8 +7,8 @@ use Rattle.stream_model.specs.declared.kind.Kind.{Kind}
 use Rattle.reply_model.specs.Replies.{is_for_styles}
 use Rattle.cascade_core.specs.Books.{book_view}
 use Rattle.cascade_core.specs.declared.rule_book.RuleBook.{RuleBook}
-use Rattle.cascade_model.specs.Defaulting.{Style}
 use Rattle.cascade_model.specs.DocumentStyles.{Page}
+use Rattle.cascade_model.specs.Styling.{Styling}
 use Rattle.page_model.specs.declared.limits.TheConstants.{MAX_SIDE}
 use Rattle.page_model.specs.declared.viewport.Viewport.{Viewport}
 use Rattle.page_styles.specs.Paths.{IsPathAbove, style_below}
@@ -17,8 +17,8 @@ use Rattle.page_styles.specs.Paths.{IsPathAbove, style_below}
 abbrev pub page_of : RuleBook → Viewport → Node → Page
 page_of book viewport root = record { book = book_view book; viewport = viewport; root = root }
 
--- this is the style of the element, by those of the elements above it
-abbrev pub IsStyleAt : Page → ℕ → Style → Type 0
+-- this is the style of the element and its environment, by those of the elements above it
+abbrev pub IsStyleAt : Page → ℕ → Styling → Type 0
 IsStyleAt page i style = (above : List ℕ) × IsPathAbove page.root i above × (style ≡ style_below page i above)
 
 -- elements of a document are matched and styled, each at most once

@@ -10,7 +10,7 @@ ghost use Rattle.std.specs.Str.{chars, str_eq_ignore_ascii_case};
 
 use css_model::{Token, TokenType};
 use css_rules::{Component, Condition, Declaration, Sheet, StyleRule, parse_style_attr};
-use css_tokens::{begins_with_word, is_word};
+use css_tokens::is_word;
 use port_core::{NoMemory, Text};
 use rules_model::ConditionalRule;
 use std::alloc::Global;
@@ -107,7 +107,7 @@ fn has_unbuilt(declarations: &[Declaration]) -> bool
 fn is_unbuilt_declaration(declaration: &Declaration) -> bool
     ensures { result ≡ model.is_unbuilt_declaration (declaration_view declaration.now) }
 {
-    begins_with_word(&declaration.name, "--") || any_unbuilt(declaration.value.as_slice())
+    any_unbuilt(declaration.value.as_slice())
 }
 
 /// Returns whether one of the tokens of component values is not built. The calls are as deep as
@@ -151,7 +151,6 @@ fn is_unbuilt_token(token: &Token) -> bool
     ensures { result ≡ model.is_unbuilt_token token.now }
 {
     match &token.token_type {
-        TokenType::Function(name) => is_word(name, "var"),
         TokenType::Dimension(_, name) => is_unbuilt_unit(name),
         _ => false,
     }

@@ -1,5 +1,5 @@
 -- The style of an element of a page, and why it is refused.
-use Rattle.std.proofs.Common.{◌≡◌, ◌∙◌, ap, sym, subst, refl, ℕ, List, [], ◌∷◌, ◌++◌, Bool, true, false, ◌||◌, Option, Some, None, map, option_map, is_none, append-nil, codes, encode_utf8_all, unwrap_or, Result, Ok, Err, OnOk, OnErr, IfOk}
+use Rattle.std.proofs.Common.{◌≡◌, ◌∙◌, ap, sym, subst, refl, ℕ, List, [], ◌∷◌, ◌++◌, Bool, true, false, Option, Some, None, map, option_map, is_none, append-nil, codes, encode_utf8_all, unwrap_or, Result, Ok, Err, OnOk, OnErr, IfOk}
 use Rattle.std.proofs.lemmas.Str.{chars_from_encodes}
 use Rattle.std.specs.List.{list_any}
 use Rattle.std.specs.Option.{option_map_or}
@@ -9,8 +9,8 @@ use Rattle.cascade_core.specs.Books.{book_view}
 use Rattle.cascade_core.specs.declared.rule_book.RuleBook.{RuleBook}
 use Rattle.cascade_laws.proofs.TreeStyles.{some-styled}
 use Rattle.cascade_model.specs.Books.{book_of}
-use Rattle.cascade_model.specs.Defaulting.{Style}
-use Rattle.cascade_model.specs.DocumentStyles.{AreStyled, Page as StyledPage}
+use Rattle.cascade_model.specs.DocumentStyles.{Page as StyledPage}
+use Rattle.cascade_model.specs.Styling.{Styling}
 use Rattle.css_rules.specs.declared.sheet.Sheet.{Sheet}
 use Rattle.page_model.specs.Document.{AreDistinct, Node, find, ids, name_at, value_at}
 use Rattle.page_model.specs.Pages.{Page}
@@ -23,9 +23,9 @@ use Rattle.page_styles.proofs.IsPathAbove.{style-along}
 use Rattle.page_styles.specs.Paths.{style_below}
 use Rattle.page_styles.specs.Styles.{IsStyleAt, LogsStyling, page_of}
 use Rattle.reply_model.specs.Spelling.{error_line, ok_line}
-use Rattle.reply_model.specs.StyleText.{AreStylesOf, style_lines, style_text}
+use Rattle.reply_model.specs.StyleText.{AreStylesOf, style_text, styling_lines}
 use Rattle.request_model.specs.States.{style_causes}
-use Rattle.request_model.specs.UnbuiltStyles.{has_unbuilt, has_unbuilt_attribute, has_unbuilt_rule, has_unbuilt_styles, is_unbuilt_rule}
+use Rattle.request_model.specs.UnbuiltStyles.{has_unbuilt, has_unbuilt_attribute, has_unbuilt_rule, has_unbuilt_styles}
 use Rattle.rules_model.specs.Rules.{StyleRule}
 use Rattle.rules_model.specs.Sheets.{style_attr_of, style_rules_of}
 use Rattle.selectors_model.specs.Matching.{elements_of}
@@ -151,19 +151,19 @@ rules-texts (s ∷ sheets) = ap (λ rules. style_rules_of s.text ∷ rules) (rul
 
 -- the lines by the kept rules are those by the rules of the texts
 lines-parsed : (sheets : List Sheet) (viewport : Viewport) (root : Node) (i : ℕ) (above : List ℕ) → AreParsed sheets
-    → style_lines (style_below (page_with viewport root (kept_rules sheets)) i above)
-    ≡ style_lines (style_below (page_with viewport root (map-texts sheets)) i above)
+    → styling_lines (style_below (page_with viewport root (kept_rules sheets)) i above)
+    ≡ styling_lines (style_below (page_with viewport root (map-texts sheets)) i above)
 lines-parsed sheets viewport root i above parsed =
-    parsed (λ rules. style_lines (style_below (page_with viewport root rules) i above))
-    ∙ ap (λ rules. style_lines (style_below (page_with viewport root rules) i above)) (rules-texts sheets)
+    parsed (λ rules. styling_lines (style_below (page_with viewport root rules) i above))
+    ∙ ap (λ rules. styling_lines (style_below (page_with viewport root rules) i above)) (rules-texts sheets)
 
 -- the styles of a page, and the lines of one of them
-pub record StyledText (page : Page) (i : ℕ) (style : Style) : Type 0 where
-  pub styles : ℕ → Option Style
+pub record StyledText (page : Page) (i : ℕ) (style : Styling) : Type 0 where
+  pub styles : ℕ → Option Styling
   pub are : AreStylesOf page styles
-  pub text : style_lines style ≡ style_text (styles i)
+  pub text : styling_lines style ≡ style_text (styles i)
 
-pub styled-text : (page : KeptPage) (book : RuleBook) (i : ℕ) (style : Style) → book_view book ≡ book_of (kept_rules page.sheets)
+pub styled-text : (page : KeptPage) (book : RuleBook) (i : ℕ) (style : Styling) → book_view book ≡ book_of (kept_rules page.sheets)
     → IsStyleAt (page_of book page.viewport page.document.document.root) i style → AreDistinct (ids page.document.document.root)
     → IsSome (name_at i page.document.document.root) → StyledText (page_view page) i style
 styled-text page book i style read at d named =
@@ -174,17 +174,17 @@ styled-text page book i style read at d named =
     record {
       styles = s.0;
       are = s.1;
-      text = ap style_lines (at.2 ∙ ap (λ rules. style_below (record { book = rules; viewport = page.viewport; root = root }) i at.0) read)
+      text = ap styling_lines (at.2 ∙ ap (λ rules. style_below (record { book = rules; viewport = page.viewport; root = root }) i at.0) read)
           ∙ (lines-parsed page.sheets page.viewport root i at.0 page.parsed ∙ ap style_text (sym own));
     }
 
 -- the lines and `ok` were appended to nothing
-pub OnOk-style : {T E : Type 0} (r : Result T E) (page : Page) (i : ℕ) (style : Style) (old mid new : List ℕ) → StyledText page i style
-    → old ≡ [] → mid ≡ old ++ style_lines style → OnOk r (new ≡ mid ++ ok_line) → OnOk r (IsStyleOf i page new)
+pub OnOk-style : {T E : Type 0} (r : Result T E) (page : Page) (i : ℕ) (style : Styling) (old mid new : List ℕ) → StyledText page i style
+    → old ≡ [] → mid ≡ old ++ styling_lines style → OnOk r (new ≡ mid ++ ok_line) → OnOk r (IsStyleOf i page new)
 OnOk-style (Ok x) page i style old mid new t empty lines line = (
   t.styles,
   t.are,
-  line ∙ ap (λ (front : List ℕ). front ++ ok_line) (lines ∙ (ap (λ (front : List ℕ). front ++ style_lines style) empty ∙ t.text)),
+  line ∙ ap (λ (front : List ℕ). front ++ ok_line) (lines ∙ (ap (λ (front : List ℕ). front ++ styling_lines style) empty ∙ t.text)),
 )
 OnOk-style (Err x) page i style old mid new t empty lines line = tt
 

@@ -59,7 +59,7 @@ fn push_style_of<L: Drop>(
     let _ = page.document.root();
     let book = RuleBook::read(alloc, &page.sheets)?;
     let styled = style_of_element(alloc, &page.document, &book, page.viewport, id, steps)?;
-    push_style(reply, styled.style())?;
+    push_style(reply, styled.style(), styled.env())?;
     push_ok(reply)
 }
 

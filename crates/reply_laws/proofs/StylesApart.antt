@@ -1,20 +1,26 @@
--- Different styles have different lines.
-use Rattle.std.proofs.Common.{◌≡◌, ◌∙◌, refl, ap, sym, subst, ℕ, ◌<◌, ◌==◌, List, [], ◌∷◌, ◌++◌, append_assoc, get_or, drop, length as count, true, not, arith, codes}
+-- Different styles have different lines, and so have different custom properties.
+use Rattle.std.proofs.Common.{◌≡◌, ◌∙◌, refl, ap, ap₂, sym, subst, ℕ, ◌<◌, ◌==◌, List, [], ◌∷◌, ◌++◌, append_assoc, get_or, drop, length as count, true, not, arith, codes}
 use Rattle.std.specs.Prelude.{flat_map}
 use Rattle.std.specs.List.{AllByRecursion}
 use Rattle.std.proofs.lemmas.Bool.{and_parts, eqb-true, agree_below_at, not-true, eqb-false}
 use Rattle.std.proofs.lemmas.List.{append_cancel_left, get_or_default, same_lists}
 use Rattle.std.proofs.lemmas.List.Elements.{All-from_recursion}
+use Rattle.css_model.specs.Classes.{Text}
+use Rattle.css_model.specs.Components.{Components}
+use Rattle.custom_model.specs.NamedValues.{NamedValues}
+use Rattle.custom_model.specs.ValueText.{value_text}
 use Rattle.cascade_model.specs.Defaulting.{Style, value_in}
 use Rattle.value_model.specs.declared.prop.Prop.{Prop}
 use Rattle.value_model.specs.declared.prop.Prop.TheVariants.{Display, FontWeight}
 use Rattle.value_model.specs.Properties.{property, properties, prop_place}
 use Rattle.value_model.specs.Values.{Final}
-use Rattle.reply_model.specs.StyleText.{value_line, style_lines}
+use Rattle.reply_model.specs.Spelling.{quoted}
+use Rattle.reply_model.specs.StyleText.{custom_line, custom_lines, style_lines, value_line}
 use Rattle.reply_model.specs.ValueTexts.{final_text}
-use Rattle.reply_laws.specs.ValueTexts.{HasShortNumbers, IsComputedStyle, TellsStylesApart, initial_style}
+use Rattle.reply_laws.specs.ValueTexts.{HasShortNumbers, IsComputedStyle, TellsStylesApart, initial_style, named_texts}
 use Rattle.value_laws.specs.ComputedForms.{is_computed}
 use Rattle.value_laws.proofs.Computed.{initial-computed}
+use Rattle.reply_laws.proofs.Quoted.{same-quoted}
 use Rattle.reply_laws.proofs.OneLine.{no_newline, text-on_one_line}
 use Rattle.reply_laws.proofs.ValuesApart.{values-apart}
 
@@ -55,17 +61,53 @@ same-value p v w r q e =
     (sym (line-whole p v r) ∙ (e ∙ line-whole p w q)) in
     same-line (final_text v) (final_text w) r q (text-on_one_line v) (text-on_one_line w) behind
 
-same-values : (s t : Style) → IsComputedStyle s → IsComputedStyle t → (ps : List Prop)
-    → flat_map (λ p. value_line p (value_in s p)) ps ≡ flat_map (λ p. value_line p (value_in t p)) ps
-    → AllByRecursion (λ p. value_in s p ≡ value_in t p) ps
-same-values s t cs ct [] e = tt
-same-values s t cs ct (p ∷ ps) e =
-    let first = same-value p (value_in s p) (value_in t p) (flat_map (λ q. value_line q (value_in s q)) ps)
-    (flat_map (λ q. value_line q (value_in t q)) ps) e in (
-      values-apart p (value_in s p) (value_in t p) (cs.computed p) (ct.computed p)
-          (cs.short p) (ct.short p) first.0,
-      same-values s t cs ct ps first.1,
+same-values : (s t : Style) → IsComputedStyle s → IsComputedStyle t → (ps : List Prop) (r q : List ℕ)
+    → flat_map (λ p. value_line p (value_in s p)) ps ++ r ≡ flat_map (λ p. value_line p (value_in t p)) ps ++ q
+    → AllByRecursion (λ p. value_in s p ≡ value_in t p) ps × (r ≡ q)
+same-values s t cs ct [] r q e = (tt, e)
+same-values s t cs ct (p ∷ ps) r q e =
+    let of_s : List ℕ = flat_map (λ x. value_line x (value_in s x)) ps in
+    let of_t : List ℕ = flat_map (λ x. value_line x (value_in t x)) ps in
+    let first = same-value p (value_in s p) (value_in t p) (of_s ++ r) (of_t ++ q)
+    (sym (append_assoc (value_line p (value_in s p)) of_s r)
+    ∙ (e ∙ append_assoc (value_line p (value_in t p)) of_t q)) in
+    let others = same-values s t cs ct ps r q first.1 in (
+      (
+        values-apart p (value_in s p) (value_in t p) (cs.computed p) (ct.computed p)
+            (cs.short p) (ct.short p) first.0,
+        others.0,
+      ),
+      others.1,
     )
+
+-- ---- the lines of custom properties
+
+-- the name in quotes, and what is behind it
+custom-whole : (name : Text) (value : Components) (rest : List ℕ) → custom_line name value ++ rest
+    ≡ codes "custom " ++ (quoted name ++ (32 ∷ (quoted (value_text value) ++ (10 ∷ rest))))
+unfolding custom_line
+custom-whole name value rest = simp append_assoc
+
+not-ended : (name : Text) (value : Components) (rest : List ℕ) → [] ≡ custom_line name value ++ rest → ⊥
+not-ended name value rest e = absurd (omega (arith, ap count (e ∙ custom-whole name value rest)))
+
+same-customs : (e f : NamedValues) → flat_map (λ v. custom_line v.0 v.1) e ≡ flat_map (λ v. custom_line v.0 v.1) f
+    → named_texts e ≡ named_texts f
+same-customs [] [] h = refl
+same-customs [] (w ∷ ws) h = absurd (not-ended w.0 w.1 (flat_map (λ v. custom_line v.0 v.1) ws) h)
+same-customs (v ∷ vs) [] h = absurd (not-ended v.0 v.1 (flat_map (λ w. custom_line w.0 w.1) vs) (sym h))
+same-customs (v ∷ vs) (w ∷ ws) h =
+    let r : List ℕ = flat_map (λ x. custom_line x.0 x.1) vs in
+    let q : List ℕ = flat_map (λ x. custom_line x.0 x.1) ws in
+    let behind_v : List ℕ = 32 ∷ (quoted (value_text v.1) ++ (10 ∷ r)) in
+    let behind_w : List ℕ = 32 ∷ (quoted (value_text w.1) ++ (10 ∷ q)) in
+    let names : quoted v.0 ++ behind_v ≡ quoted w.0 ++ behind_w =
+    append_cancel_left (codes "custom ") (quoted v.0 ++ behind_v) (quoted w.0 ++ behind_w)
+    (sym (custom-whole v.0 v.1 r) ∙ (h ∙ custom-whole w.0 w.1 q)) in
+    let name = same-quoted v.0 w.0 behind_v behind_w names in
+    let value = same-quoted (value_text v.1) (value_text w.1) (10 ∷ r) (10 ∷ q) (ap (λ xs. drop 1 xs) name.1) in
+    ap₂ (λ x xs. x ∷ xs) (ap₂ (λ n x. (n, x)) name.0 value.0)
+    (same-customs vs ws (ap (λ xs. drop 1 xs) value.1))
 
 -- ---- styles
 
@@ -80,14 +122,19 @@ value-at s k d all h =
     ap (λ n. get_or s n (property p).initial) (place-of k h)
     ∙ get_or_default s k (property p).initial d (omega (arith, all))
 
-pub styles-apart : TellsStylesApart
-unfolding style_lines
-styles-apart s t cs ct e =
-    let values = All-from_recursion (λ p. value_in s p ≡ value_in t p) properties
-    (same-values s t cs ct properties e) in
+same-styles : (s t : Style) → IsComputedStyle s → IsComputedStyle t
+    → AllByRecursion (λ p. value_in s p ≡ value_in t p) properties → s ≡ t
+same-styles s t cs ct all =
+    let values = All-from_recursion (λ p. value_in s p ≡ value_in t p) properties all in
     same_lists s t (cs.complete ∙ sym ct.complete) (λ k d h.
     let below : k < 45 = omega (arith, cs.complete) in
     sym (value-at s k d cs.complete below) ∙ (values k Display below ∙ value-at t k d ct.complete below))
+
+pub styles-apart : TellsStylesApart
+unfolding style_lines custom_lines
+styles-apart s t cs ct e =
+    let both = same-values s.style t.style cs ct properties (custom_lines s.environment) (custom_lines t.environment) e in
+    (same-styles s.style t.style cs ct both.0, same-customs s.environment t.environment both.1)
 
 -- ---- initial values
 

@@ -1,7 +1,11 @@
--- What the text of a computed value tells.
-use Rattle.std.specs.Prelude.{◌≡◌, length as count, map, true, ⊤}
+-- What the texts of computed values and of styles tell.
+use Rattle.std.specs.Prelude.{◌≡◌, List, length as count, map, true, ⊤}
+use Rattle.css_model.specs.Classes.{Text}
 use Rattle.cascade_model.specs.Defaulting.{Style, value_in}
-use Rattle.reply_model.specs.StyleText.{style_lines}
+use Rattle.cascade_model.specs.Styling.{Styling}
+use Rattle.custom_model.specs.NamedValues.{NamedValues}
+use Rattle.custom_model.specs.ValueText.{value_text}
+use Rattle.reply_model.specs.StyleText.{styling_lines}
 use Rattle.reply_model.specs.ValueTexts.{final_text}
 use Rattle.value_model.specs.declared.prop.Prop.{Prop}
 use Rattle.value_model.specs.Properties.{properties, property}
@@ -32,7 +36,12 @@ pub record IsComputedStyle (s : Style) : Type 0 where
 abbrev pub initial_style : Style
 initial_style = map (λ p. (property p).initial) properties
 
--- two styles that have the same lines are the same
+-- the names of custom properties, each with the text of its value
+abbrev pub named_texts : NamedValues → List (Text × Text)
+named_texts environment = map (λ v. (v.0, value_text v.1)) environment
+
+-- what has the same lines has the same style, and the same custom properties with the same texts
 abbrev pub TellsStylesApart : Type 0
-TellsStylesApart =
-    (s t : Style) → IsComputedStyle s → IsComputedStyle t → style_lines s ≡ style_lines t → s ≡ t
+TellsStylesApart = (s t : Styling) → IsComputedStyle s.style → IsComputedStyle t.style
+    → styling_lines s ≡ styling_lines t
+    → (s.style ≡ t.style) × (named_texts s.environment ≡ named_texts t.environment)

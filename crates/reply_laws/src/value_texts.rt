@@ -7,7 +7,8 @@ pub fn tell_values_apart()
     ensures { (p : Prop) → TellsValuesApart p }
 {}
 
-/// Two different styles of computed values have different lines; the initial values are such a style.
+/// Two different styles of computed values have different lines, and so have custom properties with
+/// different names or with values of different texts; the initial values are such a style.
 pub fn tell_styles_apart()
     ensures apart { TellsStylesApart }
     ensures initial_values { IsComputedStyle initial_style }

@@ -14,14 +14,16 @@ ghost use Rattle.request_model.specs.States.{accepted, refused};
 ghost use Rattle.request_model.specs.declared.query.Query.TheVariants.{Style};
 ghost use Rattle.layout_model.specs.Setting.{Setting};
 ghost use Rattle.cascade_model.specs.DocumentStyles.{Styles};
+ghost use Rattle.cascade_model.specs.inner.Examples.{without_custom};
+ghost use Rattle.custom_model.specs.inner.Examples.{values_of};
 ghost use Rattle.cascade_model.specs.Books.{book_rules, user_agent_rules};
 ghost use Rattle.cascade_model.specs.declared.origin.Origin.TheVariants.{Author};
 ghost use Rattle.rules_model.specs.Sheets.{style_rules_of};
 ghost use Rattle.reply_model.specs.Replies.{Course, IsAnswered, IsLogOf, IsStyleLog};
 ghost use Rattle.reply_model.specs.Spelling.{ok_line};
-ghost use Rattle.reply_model.specs.StyleText.{AreStylesOf, style_lines, style_text, styled_page, value_line};
+ghost use Rattle.reply_model.specs.StyleText.{AreStylesOf, custom_lines, style_lines, style_text, styled_page, value_line};
 ghost use Rattle.reply_model.specs.ValueTexts.{final_text};
-ghost use Rattle.reply_model.specs.inner.Examples.{other_order, initial_lines, page_of_sheets};
+ghost use Rattle.reply_model.specs.inner.Examples.{custom_line_of, environment_of_style, initial_lines, other_order, page_of_sheets};
 ghost use Rattle.value_model.specs.declared.color.Color.TheVariants.{CurrentColor, Rgba as AnRgba};
 ghost use Rattle.value_model.specs.declared.keyword.Keyword.TheVariants.{InlineBlock, None as NoneKeyword};
 ghost use Rattle.value_model.specs.declared.prop.Prop.TheVariants.{BorderTopColor, LineHeight, Width};
@@ -72,7 +74,7 @@ pub fn examples_of_value_texts()
 {}
 
 /// A line has the name of a property and its value; there is one for each property, in their order.
-#[tactic(auto, unfolding(crate::specs::StyleText::value_line, crate::specs::StyleText::style_lines))]
+#[tactic(auto, unfolding(crate::specs::StyleText::value_line, crate::specs::StyleText::style_lines, crate::specs::StyleText::custom_lines))]
 pub fn examples_of_style_texts()
     ensures width { value_line Width (length (leaf (in_percent (pos 1))))
         ≡ codes "width: pct:" ++ (signed_decimal (pos 1) ++ codes "\n") }
@@ -81,7 +83,38 @@ pub fn examples_of_style_texts()
         ≡ codes "line-height: num:" ++ (signed_decimal (pos 2) ++ codes "\n") }
     ensures initial { style_lines (map (λ p. (property p).initial) properties) ≡ initial_lines }
     ensures no_style { style_text None ≡ [] }
-    ensures a_style { style_text (Some []) ≡ style_lines [] }
+    ensures a_style { style_text (Some (without_custom [])) ≡ style_lines [] }
+{}
+
+/// The line of a custom property has its name and its value in quotes: the spellings of its tokens,
+/// with one space between each two.
+#[tactic(auto, unfolding(crate::specs::Spelling::quoted, crate::specs::StyleText::custom_line, std::specs::Prelude::encode_utf8, css_model::specs::inner::Nesting::levels_of, css_model::specs::inner::Pieces::pieces_after, css_model::specs::inner::Fronts::parts_after))]
+pub fn examples_of_custom_lines()
+    ensures token { custom_line_of (codes "--a:1px") ≡ codes "custom \"--a\" \"1px\"\n" }
+    ensures white_space { custom_line_of (codes "--a:  b\n c/**/d ") ≡ codes "custom \"--a\" \"b c d\"\n" }
+    ensures no_white_space { custom_line_of (codes "--a:f(1,2)") ≡ codes "custom \"--a\" \"f( 1 , 2 )\"\n" }
+    ensures block { custom_line_of (codes "--a:{b:c}") ≡ codes "custom \"--a\" \"{ b : c }\"\n" }
+    ensures left_open { custom_line_of (codes "--a:[b") ≡ codes "custom \"--a\" \"[ b\"\n" }
+    ensures quotes { custom_line_of (codes "--a:\"b  c\"") ≡ codes "custom \"--a\" \"\\\"b  c\\\"\"\n" }
+    ensures backslash { custom_line_of (codes "--\\41:\\42") ≡ codes "custom \"--A\" \"\\\\42\"\n" }
+    ensures control { custom_line_of (codes "--a:" ++ 34 ∷ 1 ∷ 34 ∷ [])
+        ≡ codes "custom \"--a\" \"\\\"\\u0001\\\"\"\n" }
+    ensures empty { custom_line_of (codes "--a:") ≡ codes "custom \"--a\" \"\"\n" }
+    ensures empty_within { custom_line_of (codes "--a: /**/ ") ≡ codes "custom \"--a\" \"\"\n" }
+{}
+
+/// The lines of custom properties stand behind those of all properties, in order of name.
+#[tactic(auto, unfolding(crate::specs::Spelling::quoted, crate::specs::StyleText::value_line, crate::specs::StyleText::style_lines, crate::specs::StyleText::custom_line, crate::specs::StyleText::custom_lines, std::specs::Prelude::encode_utf8, css_model::specs::inner::Nesting::levels_of, css_model::specs::inner::Pieces::pieces_after, css_model::specs::inner::Fronts::parts_after))]
+pub fn examples_of_styles_with_custom_lines()
+    ensures none { style_text (Some (record { style = []; environment = [] })) ≡ initial_lines }
+    ensures behind { style_text (Some (record { style = []; environment = values_of (codes "--a:1;--b:2") }))
+        ≡ initial_lines ++ codes "custom \"--a\" \"1\"\ncustom \"--b\" \"2\"\n" }
+    ensures in_order { custom_lines (environment_of_style (codes "--b:1;--a:2;--B:3;--b:4"))
+        ≡ codes "custom \"--B\" \"3\"\ncustom \"--a\" \"2\"\ncustom \"--b\" \"4\"\n" }
+    ensures substituted { custom_lines (environment_of_style (codes "--a:var(--b) c;--b: d"))
+        ≡ codes "custom \"--a\" \"d c\"\ncustom \"--b\" \"d\"\n" }
+    ensures on_a_cycle { custom_lines (environment_of_style (codes "--a:var(--b);--b:var(--a)")) ≡ [] }
+    ensures initial_value { custom_lines (environment_of_style (codes "--a:initial")) ≡ [] }
 {}
 
 /// A style logs that elements are matched and styled, each at most once.

@@ -1,1 +1,3 @@
 mod CallTexts
+mod CustomLines
+mod CustomValues

@@ -1,6 +1,8 @@
 //! The texts of replies: fields, quoted strings, and the styles of elements.
 #![tactic(auto)]
 
+mod custom_values;
+mod customs;
 mod fields;
 mod lengths;
 mod quotes;

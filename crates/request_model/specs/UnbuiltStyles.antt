@@ -1,15 +1,13 @@
--- Which pages have styles that are not built yet: those with custom properties, units of containers, or
--- conditions of containers.
+-- Which pages have styles that are not built yet: those with units of containers, or conditions of containers.
 use Rattle.std.specs.Prelude.{ℕ, ◌||◌, List, [], ◌∷◌, codes, Bool, true, false}
-use Rattle.std.specs.Char.{eq_ignore_ascii_case}
-use Rattle.std.specs.List.{list_any, starts_with}
+use Rattle.std.specs.List.{list_any}
 use Rattle.std.specs.Option.{option_map_or}
 use Rattle.std.specs.Str.{str_eq_ignore_ascii_case}
 use Rattle.css_model.specs.Classes.{Text}
 use Rattle.css_model.specs.Components.{Components, all_tokens_of}
 use Rattle.css_model.specs.declared.token.Token.{Token}
 use Rattle.css_model.specs.declared.token.TokenType.{TokenType}
-use Rattle.css_model.specs.declared.token.TokenType.TheVariants.{Dimension, Function}
+use Rattle.css_model.specs.declared.token.TokenType.TheVariants.{Dimension}
 use Rattle.page_model.specs.Document.{Node, value_at}
 use Rattle.page_model.specs.Pages.{Page}
 use Rattle.rules_model.specs.Declarations.{Declaration}
@@ -26,27 +24,23 @@ abbrev pub unbuilt_units : List Text
 unbuilt_units =
     codes "cqw" ∷ codes "cqh" ∷ codes "cqi" ∷ codes "cqb" ∷ codes "cqmin" ∷ codes "cqmax" ∷ []
 
--- a reference to a custom property (CSS Variables 1, section 3), or a length in such a unit
+-- a length in such a unit
 abbrev pub is_unbuilt_type : TokenType → Bool
-is_unbuilt_type (Function name) = str_eq_ignore_ascii_case name (codes "var")
 is_unbuilt_type (Dimension n name) = list_any (str_eq_ignore_ascii_case name) unbuilt_units
 is_unbuilt_type other = false
 
 abbrev pub is_unbuilt_token : Token → Bool
 is_unbuilt_token t = is_unbuilt_type t.token_type
 
--- such a function or unit stands in the value, however deep
+-- such a length stands in the value, however deep
 abbrev pub is_unbuilt_value : Components → Bool
 is_unbuilt_value value = list_any is_unbuilt_token (all_tokens_of value)
 
 -- ---- declarations
 
--- the name of a custom property begins with two hyphens (CSS Variables 1, section 2)
-abbrev pub is_custom_name : Text → Bool
-is_custom_name name = starts_with eq_ignore_ascii_case name (codes "--")
-
+-- one stands in the value of a property or of a custom property, be it right or not
 abbrev pub is_unbuilt_declaration : Declaration → Bool
-is_unbuilt_declaration d = is_custom_name d.name || is_unbuilt_value d.value
+is_unbuilt_declaration d = is_unbuilt_value d.value
 
 abbrev pub has_unbuilt : List Declaration → Bool
 has_unbuilt ds = list_any is_unbuilt_declaration ds

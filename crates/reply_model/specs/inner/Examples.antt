@@ -1,9 +1,14 @@
 -- Words and documents of the examples.
-use Rattle.std.specs.Prelude.{ℕ, ℤ, pos, List, [], ◌∷◌, ◌++◌, codes}
+use Rattle.std.specs.Prelude.{ℕ, ℤ, pos, List, [], ◌∷◌, ◌++◌, codes, flat_map}
 use Rattle.std.specs.Fmt.{decimal, signed_decimal}
 use Rattle.page_model.specs.Document.{Node, element, text, no_nodes, node}
 use Rattle.page_model.specs.Pages.{Page}
 use Rattle.page_model.specs.Trees.{Text}
+use Rattle.cascade_model.specs.DocumentStyles.{root_style}
+use Rattle.cascade_model.specs.inner.Examples.{attribute, leaf, page_with}
+use Rattle.custom_model.specs.NamedValues.{NamedValues}
+use Rattle.custom_model.specs.inner.Examples.{values_of}
+use Rattle.reply_model.specs.StyleText.{custom_line}
 
 -- a rule line of its numbers and its prelude in quotes
 abbrev pub line : ℕ → ℕ → ℕ → ℕ → List ℕ → List ℕ
@@ -63,3 +68,14 @@ page_of_sheets sheets = record {
   sheets = sheets;
   viewport = record { width = 800; height = 600 };
 }
+
+-- ---- custom properties
+
+-- the lines of the declarations of a text
+abbrev pub custom_line_of : Text → List ℕ
+custom_line_of css = flat_map (λ v. custom_line v.0 v.1) (values_of css)
+
+-- the environment of an element with this `style` attribute, by the cascade
+abbrev pub environment_of_style : Text → NamedValues
+environment_of_style css =
+    (root_style (page_with [] [] (leaf 0 (codes "div") (attribute (codes "style") css ∷ []))) 0).environment

@@ -1,7 +1,7 @@
 use Rattle.std.proofs.Common.{rules, ◌≡◌, ◌∙◌, sym, subst, IfOk}
 use Rattle.cascade_core.specs.StyledView.{styled_view}
 use Rattle.page_styles.specs.inner.Sources.{source_view}
-use Rattle.page_styles.proofs.ChainStyles.{begun-child, begun-parent, begun-root, child-below, parted, step-up, top-is}
+use Rattle.page_styles.proofs.ChainStyles.{begun-child, begun-parent, begun-root, child-below, logged-child, parted, root-below, step-up, top-is}
 use Rattle.page_styles.proofs.chains.+chain_below.Goals as goal
 
 pub chain_at_root-requires-clause-top : goal.chain_at_root-requires-clause-top
@@ -35,3 +35,14 @@ pub returns-clause-begun : goal.returns-clause-begun
 returns-clause-begun g t c =
     begun-child c.chain_of_child.result c.args.id _ _ c.args.above.now c.args.steps.now c.chain_below.new.steps c.chain_of_child.new.steps
     (parted c.args.above.now (sym c.is_empty.ensures ∙ c.if-is_empty.false)) c.in_ok-parent.ensures.logged c.chain_of_child.ensures.begun
+
+pub returns-then-is_empty-clause-style : goal.returns-then-is_empty-clause-style
+returns-then-is_empty-clause-style g t c =
+    subst (λ s. IfOk c.chain_at_root.result (λ x. styled_view x.styled ≡ s))
+    (root-below (source_view c.args.from.now) c.args.id c.args.above.now (sym c.is_empty.ensures ∙ c.if-is_empty.true))
+    c.chain_at_root.ensures.style
+
+pub returns-clause-logged : goal.returns-clause-logged
+returns-clause-logged g t c =
+    logged-child c.chain_of_child.result c.args.id _ _ c.args.above.now c.args.steps.now c.chain_below.new.steps c.chain_of_child.new.steps
+    (parted c.args.above.now (sym c.is_empty.ensures ∙ c.if-is_empty.false)) c.in_ok-parent.ensures.logged c.chain_of_child.ensures.logged

@@ -1,6 +1,6 @@
-use Rattle.std.proofs.Common.{◌∙◌, ap, ◌++◌, string_bytes}
+use Rattle.std.proofs.Common.{◌∙◌, ap₂, ◌++◌, string_bytes}
 use Rattle.cascade_core.specs.StyledView.{styled_view}
-use Rattle.reply_model.specs.StyleText.{style_lines}
+use Rattle.reply_model.specs.StyleText.{styling_lines}
 use Rattle.relayout_cli.specs.Pages.{page_view}
 use Rattle.relayout_cli.proofs.SheetLemmas.{few-parsed}
 use Rattle.relayout_cli.proofs.StyleLemmas.{OnOk-style, styled-text}
@@ -15,4 +15,8 @@ returns-clause-style g c =
     (string_bytes c.push_style.new.reply) _
     (styled-text c.args.page.now c.in_ok-book.book c.args.id (styled_view c.in_ok-styled.styled) c.in_ok-book.ensures c.in_ok-styled.ensures.style
     c.root.ensures.facts.ids.0 c.requires.element)
-    c.requires.empty (c.in_ok-push_style.ensures ∙ ap (λ s. string_bytes c.args.reply.now ++ style_lines s) c.style.ensures) c.push_ok.ensures.line
+    c.requires.empty
+    (c.in_ok-push_style.ensures
+    ∙ ap₂ (λ s e. string_bytes c.args.reply.now ++ styling_lines (record { style = s; environment = e }))
+    c.style.ensures c.env.ensures)
+    c.push_ok.ensures.line

@@ -2,7 +2,7 @@ use Rattle.std.proofs.Common.{◌≡◌, ◌++◌, drop, flat_map, string_bytes}
 use Rattle.cascade_model.specs.Defaulting.{value_in}
 use Rattle.prop_table.specs.Styles.{style_view}
 use Rattle.reply_model.specs.StyleText.{value_line}
-use Rattle.reply_texts.proofs.styles.push_style.Given as goal
+use Rattle.reply_texts.proofs.styles.push_properties.Given as goal
 
 -- what was appended so far and the lines of the rest are all
 abbrev pub invariant-loop-prop : goal.invariant-loop-prop
