@@ -12,6 +12,7 @@ use Rattle.cascade_core.specs.Views.{rule_view, rules_view}
 use Rattle.cascade_core.specs.declared.draft.Draft.{Draft}
 use Rattle.cascade_core.specs.declared.rule_body.RuleBody.{RuleBody}
 use Rattle.cascade_core.specs.inner.Drafts.{Adds, IsDraft, draft_view, book_rule_of, book_rules_of}
+use Rattle.cascade_core.specs.inner.Media.{MediaPlaces}
 use Rattle.cascade_core.proofs.Numbers.{numbered-more}
 use Rattle.cascade_core.proofs.RulesView.{view-more}
 
@@ -59,22 +60,22 @@ in-front None rules = refl
 in-front (Some r) rules = refl
 
 -- the rules up to one and then that one, which was added
-pub one-more : (old between new : Draft) (origin : Origin) (rules : List StyleRule) (i : ℕ) (r : StyleRule)
+pub one-more : (old between new : Draft) (origin : Origin) (places : MediaPlaces) (rules : List StyleRule) (i : ℕ) (r : StyleRule)
     → i < length rules → r ≡ get_or rules i r
-    → Adds old between (book_rules_of origin (take i rules)) i
-    → Adds between new (in_front_if (book_rule_of origin r) []) 1
-    → Adds old new (book_rules_of origin (take (i + 1) rules)) (i + 1)
-one-more old between new origin rules i r within is a b =
-    subst (λ added. Adds old new added (i + 1)) (joined rules i r within is ∙ ap (λ k. book_rules_of origin (take k rules)) (sym (add-one i)))
-    (both-added old between new (book_rules_of origin (take i rules)) (in_front_if (book_rule_of origin r) []) i 1 a b)
+    → Adds old between (book_rules_of origin places (take i rules)) i
+    → Adds between new (in_front_if (book_rule_of origin places r) []) 1
+    → Adds old new (book_rules_of origin places (take (i + 1) rules)) (i + 1)
+one-more old between new origin places rules i r within is a b =
+    subst (λ added. Adds old new added (i + 1)) (joined rules i r within is ∙ ap (λ k. book_rules_of origin places (take k rules)) (sym (add-one i)))
+    (both-added old between new (book_rules_of origin places (take i rules)) (in_front_if (book_rule_of origin places r) []) i 1 a b)
   where
     joined : (rules : List StyleRule) (i : ℕ) (r : StyleRule) → i < length rules → r ≡ get_or rules i r
-        → book_rules_of origin (take i rules) ++ in_front_if (book_rule_of origin r) []
-        ≡ book_rules_of origin (take (suc i) rules)
+        → book_rules_of origin places (take i rules) ++ in_front_if (book_rule_of origin places r) []
+        ≡ book_rules_of origin places (take (suc i) rules)
     joined [] i r within is = absurd (omega (arith, within))
-    joined (q ∷ rules) zero r within is = ap (λ x. in_front_if (book_rule_of origin x) []) is
+    joined (q ∷ rules) zero r within is = ap (λ x. in_front_if (book_rule_of origin places x) []) is
     joined (q ∷ rules) (suc i) r within is =
-        ap (λ seen. seen ++ in_front_if (book_rule_of origin r) []) (in-front (book_rule_of origin q) (book_rules_of origin (take i rules)))
-        ∙ (append_assoc (in_front_if (book_rule_of origin q) []) (book_rules_of origin (take i rules)) (in_front_if (book_rule_of origin r) [])
-        ∙ (ap (λ seen. in_front_if (book_rule_of origin q) [] ++ seen) (joined rules i r (omega (arith, within)) is)
-        ∙ sym (in-front (book_rule_of origin q) (book_rules_of origin (take (suc i) rules)))))
+        ap (λ seen. seen ++ in_front_if (book_rule_of origin places r) []) (in-front (book_rule_of origin places q) (book_rules_of origin places (take i rules)))
+        ∙ (append_assoc (in_front_if (book_rule_of origin places q) []) (book_rules_of origin places (take i rules)) (in_front_if (book_rule_of origin places r) [])
+        ∙ (ap (λ seen. in_front_if (book_rule_of origin places q) [] ++ seen) (joined rules i r (omega (arith, within)) is)
+        ∙ sym (in-front (book_rule_of origin places q) (book_rules_of origin places (take (suc i) rules)))))

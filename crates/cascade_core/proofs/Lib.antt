@@ -6,11 +6,12 @@ pub mod KeptDeclarations
 pub mod IsTable
 pub mod CustomWinners
 pub mod AreWinners
+pub mod MediaPlaces
 pub mod BookOf
 pub mod AreDefaults
 pub mod Matches
 pub mod WinnersView
-pub mod AllYes
+pub mod AnswersAt
 pub mod ValueIn
 pub mod StyleParts
 pub mod BasesOf

@@ -16,13 +16,13 @@ use Rattle.cascade_core.specs.inner.Matches.{applied_at, applied_at_all, applied
 use Rattle.cascade_core.proofs.KeptDeclarations.{from-here}
 
 -- a rule of a book, in a place
-record FoundRule (rules : List Rule) (bodies : List RuleBody) (n : ℕ) : Type 0 where
-  rule : Rule
-  body : RuleBody
-  in_book : slice_get (rules_view rules bodies) n ≡ Some (rule_view rule body)
-  in_bodies : slice_get bodies n ≡ Some body
+pub record FoundRule (rules : List Rule) (bodies : List RuleBody) (n : ℕ) : Type 0 where
+  pub rule : Rule
+  pub body : RuleBody
+  pub in_book : slice_get (rules_view rules bodies) n ≡ Some (rule_view rule body)
+  pub in_bodies : slice_get bodies n ≡ Some body
 
-found : (rules : List Rule) (bodies : List RuleBody) (n : ℕ) → length rules ≡ length bodies
+pub found : (rules : List Rule) (bodies : List RuleBody) (n : ℕ) → length rules ≡ length bodies
     → n < length bodies → FoundRule rules bodies n
 found [] [] n paired within = absurd (omega (arith, within))
 found [] (b ∷ bodies) n paired within = absurd (omega (arith, paired))

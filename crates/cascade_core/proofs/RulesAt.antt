@@ -5,19 +5,19 @@ use Rattle.std.specs.List.{All, slice_get}
 use Rattle.std.proofs.lemmas.List.{length-map}
 use Rattle.std.proofs.lemmas.List.Elements.{All-cons}
 use Rattle.page_model.specs.Document.{Node}
+use Rattle.page_model.specs.declared.viewport.Viewport.{Viewport}
 use Rattle.conditions_model.specs.declared.tri.Tri.{Tri}
-use Rattle.conditions_model.specs.declared.tri.Tri.TheVariants.{Yes}
 use Rattle.selectors_model.specs.Selectors.{SelectorList}
 use Rattle.selectors_model.specs.declared.spec.Spec.{Spec}
 use Rattle.selectors_model.specs.Specificity.{matching_specificity}
 use Rattle.selectors.specs.Rules.{matched_rules, with_match}
 use Rattle.selectors.specs.Views.{list_view}
 use Rattle.selectors.specs.declared.rules.Rule.{Rule}
+use Rattle.cascade_model.specs.Answers.{answers_to}
 use Rattle.cascade_model.specs.Applied as model
 use Rattle.cascade_model.specs.Books.{BookRule}
-use Rattle.cascade_model.specs.DocumentStyles.{answers_to, applied_to, inline_declarations}
+use Rattle.cascade_model.specs.DocumentStyles.{applied_to, inline_declarations}
 use Rattle.cascade_model.specs.Kept.{Kept}
-use Rattle.cascade_core.specs.Answers.{all_yes}
 use Rattle.cascade_core.specs.Books.{AreInBook, AreRulesOf, rules_at, with_specificity}
 
 -- the same selectors
@@ -105,42 +105,16 @@ numbers-are root i rules book are =
     numbers-below root i (length book) rules
     (λ j d within. omega (arith, are.numbered j d within, within, lengths-are rules book are))
 
--- ---- the answers
-
-first-answered : (n : ℕ) (b : BookRule) (spec : Option Spec) (pairs : List (ℕ × Spec))
-    (matched : List model.MatchedRule) → all_yes pairs ≡ answers_to matched
-    → all_yes (with_match n spec pairs) ≡ answers_to (model.in_front_of_matched b spec matched)
-first-answered n b None pairs matched behind = behind
-first-answered n b (Some spec) pairs matched behind = ap (λ (l : List Tri). Yes ∷ l) behind
-
-answered-from : (root : Node) (i : ℕ) (rules : List Rule) (book : List BookRule) → Same rules book
-    → all_yes (matched_rules root rules i) ≡ answers_to (model.matched_rules root i book)
-answered-from root i [] [] same = refl
-answered-from root i [] (b ∷ book) same = absurd (omega (arith, as-many [] (b ∷ book) same))
-answered-from root i (r ∷ rules) [] same = absurd (omega (arith, as-many (r ∷ rules) [] same))
-answered-from root i (r ∷ rules) (b ∷ book) same =
-    first-answered r.number b (matching_specificity root (list_view r.list) i) (matched_rules root rules i)
-    (model.matched_rules root i book) (answered-from root i rules book (same-rest r rules b book same))
-    ∙ ap (λ l. answers_to (model.in_front_of_matched b (matching_specificity root l i) (model.matched_rules root i book)))
-    (same-first r rules b book same)
-
--- the answers to the conditions of those that match
-pub answers-are : (root : Node) (i : ℕ) (rules : List Rule) (book : List BookRule) → AreRulesOf rules book
-    → all_yes (matched_rules root rules i) ≡ answers_to (model.matched_rules root i book)
-answers-are root i rules book are = answered-from root i rules book are.selectors
-
--- there is one for each
-pub answers-count : (pairs : List (ℕ × Spec)) → length (all_yes pairs) ≡ length pairs
-answers-count pairs = length-map pairs (λ pair. Yes)
-
 -- ---- the declarations
 
 -- those that apply to an element
-pub applied-to : (root : Node) (i : ℕ) (rules : List Rule) (book : List BookRule) (pairs : List (ℕ × Spec))
-    (answers : List Tri) (inline : List Kept) → AreRulesOf rules book → pairs ≡ matched_rules root rules i
-    → answers ≡ all_yes pairs → inline ≡ inline_declarations root i
-    → model.applied_of (rules_at book pairs) answers inline ≡ applied_to book root i
-applied-to root i rules book pairs answers inline are matched all declared =
-    ap₂ (λ ms ts. model.applied_of ms ts inline) (ap (rules_at book) matched ∙ matched-are root i rules book are)
-    (all ∙ (ap all_yes matched ∙ answers-are root i rules book are))
-    ∙ ap (model.applied_of (model.matched_rules root i book) (answers_to (model.matched_rules root i book))) declared
+pub applied-to : (v : Viewport) (root : Node) (i : ℕ) (rules : List Rule) (book : List BookRule)
+    (pairs : List (ℕ × Spec)) (answers : List Tri) (inline : List Kept) → AreRulesOf rules book
+    → pairs ≡ matched_rules root rules i → answers ≡ answers_to v (rules_at book pairs)
+    → inline ≡ inline_declarations root i
+    → model.applied_of (rules_at book pairs) answers inline ≡ applied_to book v root i
+applied-to v root i rules book pairs answers inline are matched answered declared =
+    let here : rules_at book pairs ≡ model.matched_rules root i book =
+    ap (rules_at book) matched ∙ matched-are root i rules book are in
+    ap₂ (λ ms ts. model.applied_of ms ts inline) here (answered ∙ ap (answers_to v) here)
+    ∙ ap (model.applied_of (model.matched_rules root i book) (answers_to v (model.matched_rules root i book))) declared

@@ -4,7 +4,6 @@ pub mod AppliedViews
 pub mod Tables
 pub mod Defaults
 pub mod Books
-pub mod Answers
 pub mod WinnersView
 pub mod Choices
 pub mod Givens

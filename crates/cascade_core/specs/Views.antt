@@ -1,5 +1,7 @@
 -- Which rules and declarations of the definitions these are.
 use Rattle.std.specs.Prelude.{List, [], ◌∷◌, map, Bool}
+use Rattle.conditions_model.specs.MediaQueries.{MediaQuery}
+use Rattle.media_conditions.specs.Views.{queries_view}
 use Rattle.cascade_model.specs.Books.{BookRule}
 use Rattle.cascade_model.specs.Kept as model
 use Rattle.cascade_core.specs.declared.kept.Kept.{Kept}
@@ -7,6 +9,7 @@ use Rattle.cascade_core.specs.declared.kept.KeptValue.{KeptValue}
 use Rattle.cascade_core.specs.declared.kept.KeptValue.TheVariants as kept_values
 use Rattle.cascade_core.specs.declared.kept.Target.{Target}
 use Rattle.cascade_core.specs.declared.kept.Target.TheVariants as targets
+use Rattle.cascade_core.specs.declared.media.MediaBlock.{MediaBlock}
 use Rattle.cascade_core.specs.declared.rule_body.RuleBody.{RuleBody}
 use Rattle.css_tokens.specs.Nested.{components_view}
 use Rattle.prop_table.specs.Views.{value_view}
@@ -36,11 +39,16 @@ kept_for value important p = record { target = model.of_property p; value = valu
 abbrev pub all_kept_view : List Kept → List model.Kept
 all_kept_view ks = map kept_view ks
 
+-- the queries of each `@media` block
+abbrev pub media_view : List MediaBlock → List (List MediaQuery)
+media_view blocks = map (λ b. queries_view b.queries.value) blocks
+
 -- a rule: its selectors stand in one place, and the rest in another
 abbrev pub rule_view : Rule → RuleBody → BookRule
 rule_view r body = record {
   origin = body.origin;
   selectors = list_view r.list;
+  media = media_view body.media;
   declarations = all_kept_view body.declarations;
 }
 

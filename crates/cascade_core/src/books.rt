@@ -6,7 +6,7 @@ ghost use Rattle.cascade_core.specs.inner.Drafts.{IsDraft, draft_view};
 ghost use Rattle.std.specs.Prelude.{◌≡◌, IfOk, map};
 
 use crate::defaults::Defaults;
-use crate::draft::{Draft, add_rules, empty_draft};
+use crate::draft::{Draft, add_sheet, empty_draft};
 use crate::rule_book::RuleBook;
 use crate::user_agent::user_agent_sheet;
 use cascade_model::Origin;
@@ -16,8 +16,8 @@ use selectors::RuleList;
 use std::alloc::Global;
 
 impl RuleBook {
-    /// Reads the rules of the user agent and those of `sheets`: their selectors and their
-    /// declarations.
+    /// Reads the rules of the user agent and those of `sheets`: their selectors, the media queries
+    /// around them, and their declarations.
     ///
     /// Time and memory grow with the number and the length of the rules.
     pub fn read(alloc: Global, sheets: &Seq<Sheet>) -> Result<RuleBook, NoMemory>
@@ -48,14 +48,9 @@ fn draft_of(alloc: Global, sheets: &[Sheet]) -> Result<Draft, NoMemory>
 {
     let mut draft = empty_draft(alloc);
     let user_agent = user_agent_sheet(alloc)?;
-    add_rules(
-        alloc,
-        &mut draft,
-        Origin::UserAgent,
-        user_agent.rules.as_slice(),
-    )?;
+    add_sheet(alloc, &mut draft, Origin::UserAgent, &user_agent)?;
     for sheet in sheets {
-        add_rules(alloc, &mut draft, Origin::Author, sheet.rules.as_slice())?;
+        add_sheet(alloc, &mut draft, Origin::Author, sheet)?;
     }
     Ok(draft)
 }

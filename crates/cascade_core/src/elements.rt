@@ -7,6 +7,7 @@ ghost use Rattle.cascade_model.specs.Kept.{kept_declarations};
 ghost use Rattle.cascade_model.specs.Styling.{styling_of};
 ghost use Rattle.css_rules.specs.Views.{declarations_view};
 ghost use Rattle.page_model.specs.Document.{name_at};
+ghost use Rattle.page_model.specs.declared.limits.TheConstants.{MAX_SIDE};
 ghost use Rattle.selectors.specs.Rooms.{empty_room};
 ghost use Rattle.std.specs.Option.{option_copied};
 ghost use Rattle.std.specs.Prelude.{◌≡◌, ◌≤◌, ◌++◌, ◌∷◌, ◌⊎◌, [], length, option_map};
@@ -21,14 +22,15 @@ use crate::styled::Styled;
 use crate::styling::resolve;
 use css_rules::{Declarations, parse_style_attr};
 use dom_arena::Doc;
+use page_model::Viewport;
 use port_core::{NoMemory, NodeId, Seq, Steps};
 use prop_table::Bases;
 use selectors::{Matched, match_rules};
 use std::alloc::Global;
 
-/// Returns the style of the element `id` of a document, where the rules are those of `book` and its
-/// parent has the style `parent`. `b` is what lengths in `font-size` refer to. What was in `room`
-/// goes.
+/// Returns the style of the element `id` of a document on the viewport `v`, where the rules are those
+/// of `book` and its parent has the style `parent`. `b` is what lengths in `font-size` refer to. What
+/// was in `room` goes.
 ///
 /// It logs the match of the element, and then its style.
 ///
@@ -40,6 +42,7 @@ pub fn styled_element<L: Drop>(
     doc: &Doc,
     id: NodeId,
     book: &RuleBook,
+    v: Viewport,
     room: &mut Matched<L>,
     parent: Option<&Styled<L>>,
     b: &Bases,
@@ -47,8 +50,10 @@ pub fn styled_element<L: Drop>(
 ) -> Result<Styled<L>, NoMemory>
     requires element { IsSome (name_at id doc.now.document.root) }
     requires room { length (book_view book.now) ≤ room.old.room }
+    requires width { v.width ≤ MAX_SIDE }
+    requires height { v.height ≤ MAX_SIDE }
     ensures style { IfOk result (λ s. styled_view s ≡ styling_of (record {
-      cascaded = cascaded_of (model.applied_to (book_view book.now) doc.now.document.root id);
+      cascaded = cascaded_of (model.applied_to (book_view book.now) v doc.now.document.root id);
       parent = option_map styled_view (option_copied parent.entry);
       bases = b.now;
     })) }
@@ -60,7 +65,7 @@ pub fn styled_element<L: Drop>(
 {
     let inline = inline_declarations(alloc, doc, id)?;
     match_rules(doc, id, book.rules(), room, steps);
-    let answers = answers(alloc, book, room)?;
+    let answers = answers(alloc, book, room, v)?;
     let winners = winning(alloc, book, room, &answers, &inline)?;
     resolve(alloc, id, &winners, parent, b, &answers, steps)
 }

@@ -17,6 +17,7 @@ mod given;
 mod kept;
 mod longhands;
 mod made;
+mod media;
 mod parts;
 mod resolving;
 mod rule_body;

@@ -1,5 +1,6 @@
 //! What a rule declares.
 use crate::kept::Kept;
+use crate::media::MediaBlocks;
 use cascade_model::Origin;
 use port_core::Seq;
 
@@ -8,6 +9,8 @@ use port_core::Seq;
 pub(crate) struct RuleBody {
     /// Whose rule it is.
     pub(crate) origin: Origin,
+    /// The `@media` blocks around it, the outermost first.
+    pub(crate) media: MediaBlocks,
     /// Its declarations.
     pub(crate) declarations: Seq<Kept>,
 }

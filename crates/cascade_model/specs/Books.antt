@@ -1,9 +1,13 @@
 -- All rules that there are for a page: those of the user agent, and then those of each sheet.
-use Rattle.std.specs.Prelude.{List, [], ◌∷◌, ◌++◌, map, Option, Some, None, option_map}
+use Rattle.std.specs.Prelude.{List, [], ◌∷◌, ◌++◌, map, filter_map, Option, Some, None, option_map}
 use Rattle.std.specs.Str.{chars}
 use Rattle.css_model.specs.Classes.{Text}
-use Rattle.rules_model.specs.Rules.{StyleRule}
+use Rattle.css_model.specs.Components.{Components}
+use Rattle.rules_model.specs.declared.conditional_rule.ConditionalRule.{ConditionalRule}
+use Rattle.rules_model.specs.declared.conditional_rule.ConditionalRule.TheVariants.{Media, Container}
+use Rattle.rules_model.specs.Rules.{Condition, StyleRule}
 use Rattle.rules_model.specs.Sheets.{style_rules_of}
+use Rattle.conditions_model.specs.MediaQueries.{MediaQuery, queries_of}
 use Rattle.selectors_model.specs.Grammar.{selector_list_of}
 use Rattle.selectors_model.specs.Selectors.{SelectorList}
 use Rattle.cascade_model.specs.declared.origin.Origin.{Origin}
@@ -15,12 +19,24 @@ use Rattle.cascade_model.specs.Kept.{Kept, kept_declarations}
 pub record BookRule : Type 0 where
   pub origin : Origin
   pub selectors : SelectorList
+  -- the queries of each `@media` block around it, the outermost first
+  pub media : List (List MediaQuery)
   pub declarations : List Kept
+
+-- the media queries that a condition asks; `@container` asks none
+abbrev pub queries_asked : ConditionalRule → Components → Option (List MediaQuery)
+queries_asked Media prelude = Some (queries_of prelude)
+queries_asked Container prelude = None
+
+-- those of each `@media` block among conditions, in their order
+abbrev pub media_among : List Condition → List (List MediaQuery)
+media_among conditions = filter_map (λ c. queries_asked c.at_rule c.prelude) conditions
 
 abbrev pub rule_with : Origin → StyleRule → SelectorList → BookRule
 rule_with origin r selectors = record {
   origin = origin;
   selectors = selectors;
+  media = media_among r.conditions;
   declarations = kept_declarations r.declarations;
 }
 

@@ -1,13 +1,12 @@
 -- The styles of the elements of a document.
-use Rattle.std.specs.Prelude.{ℕ, ℤ, pos, ◌≡◌, ◌*ℤ◌, List, [], codes, map, Option, Some, None, option_map, unwrap_or}
+use Rattle.std.specs.Prelude.{ℕ, ℤ, pos, ◌≡◌, ◌*ℤ◌, List, [], codes, Option, Some, None, option_map, unwrap_or}
 use Rattle.units64.specs.declared.constants.TheConstants.{UNITS_PER_PIXEL}
 use Rattle.page_model.specs.declared.viewport.Viewport.{Viewport}
 use Rattle.page_model.specs.Document.{Node, element, text, Nodes, no_nodes, node, value_at}
 use Rattle.rules_model.specs.Sheets.{style_attr_of}
 use Rattle.value_model.specs.declared.length_unit.Bases.{Bases}
-use Rattle.conditions_model.specs.declared.tri.Tri.{Tri}
-use Rattle.conditions_model.specs.declared.tri.Tri.TheVariants.{Yes}
-use Rattle.cascade_model.specs.Applied.{Applied, MatchedRule, applied_of, matched_rules}
+use Rattle.cascade_model.specs.Answers.{answers_to}
+use Rattle.cascade_model.specs.Applied.{Applied, applied_of, matched_rules}
 use Rattle.cascade_model.specs.Books.{BookRule}
 use Rattle.cascade_model.specs.Kept.{Kept, kept_declarations}
 use Rattle.cascade_model.specs.Cascaded.{cascaded_of}
@@ -19,14 +18,10 @@ abbrev pub inline_declarations : Node → ℕ → List Kept
 inline_declarations root i =
     unwrap_or (option_map (λ text. kept_declarations (style_attr_of text)) (value_at (codes "style") i root)) []
 
--- the answers to the conditions of rules: each is Yes, as no conditions are read yet
-abbrev pub answers_to : List MatchedRule → List Tri
-answers_to matched = map (λ m. Yes) matched
-
--- the declarations that apply to an element
-abbrev pub applied_to : List BookRule → Node → ℕ → List Applied
-applied_to book root i =
-    applied_of (matched_rules root i book) (answers_to (matched_rules root i book)) (inline_declarations root i)
+-- the declarations that apply to an element on a viewport
+abbrev pub applied_to : List BookRule → Viewport → Node → ℕ → List Applied
+applied_to book v root i =
+    applied_of (matched_rules root i book) (answers_to v (matched_rules root i book)) (inline_declarations root i)
 
 -- the initial font size, in units
 abbrev pub initial_font_size : ℤ
@@ -56,7 +51,7 @@ Styles = ℕ → Option Styling
 -- the style of an element below this parent, or of the root
 abbrev pub element_style : Page → Option Styling → (em rem : ℤ) → ℕ → Styling
 element_style page parent em rem i = styling_of (record {
-  cascaded = cascaded_of (applied_to page.book page.root i);
+  cascaded = cascaded_of (applied_to page.book page.viewport page.root i);
   parent = parent;
   bases = bases_in page.viewport em rem;
 })

@@ -1,6 +1,7 @@
 pub mod Kept
 pub mod Books
 pub mod Applied
+pub mod Answers
 pub mod Order
 pub mod Cascaded
 pub mod Defaulting

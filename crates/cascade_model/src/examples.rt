@@ -5,5 +5,6 @@ pub mod custom;
 pub mod defaulting;
 pub mod documents;
 pub mod fonts;
+pub mod media;
 pub mod order;
 pub mod rows;

@@ -56,3 +56,27 @@ pub(crate) const LENGTHS: &str =
 ["div",["p"]]|p{border-left-style:solid} => border-left-width:192
 ["div",["p"]]|div{border-left:2px solid}p{border-left:inherit} => border-left-width:128
 ["div",["p"]]|div{border-left-width:2px}p{border-left-width:inherit;border-left-style:solid} => border-left-width:0"#;
+
+/// Values with `var()` (CSS Custom Properties 1, sections 2 and 3).
+pub(crate) const REFERENCES: &str =
+    r#"["div",{"style":"--a:var(--b);--b:var(--a);width:var(--a);height:var(--c,5px)"}] => width:auto height:320
+["div",{"style":"--w: 8px ;width:calc(1px + 2*var(--w));height:max(1em, min(50px, 2vw))"}] => width:1088 height:1024
+["div",{"style":"--s:1px 2px;margin:var(--s) 3px;width:1px;width:var(--s)"}] => margin-top:64 margin-right:128 margin-bottom:192 margin-left:128 width:auto
+["div",["p"]]|div{--a:1px;width:3px}p{--a:var(--b,2px);width:var(--a);height:var(--z,inherit)} => width:128 height:auto
+["div",["p"]]|div{--a:1px}p{--a:inherit;width:var(--a);--b:initial;height:var(--b,3px)} => width:64 height:192
+["div",["p"]]|div{color:red}p{color:blue;color:var(--z,unset);margin-top:var(--z,revert)} => color:#ff0000ff margin-top:1024
+["div",["p"]]|div{width:1px}p{width:2px;all:var(--z,inherit)} => width:64 display:block
+["div",{"style":"width:1px;width:var(a);height:1px;height:var(--a) );max-width:var(--a,1px 2px)"}] => width:64 height:auto max-width:none
+["div",["p"]]|p{--a:1px!important}p{--a:2px}#x{--a:3px}p{width:var(--a);HEIGHT:VAR(--A,4px)} => width:64 height:256"#;
+
+/// Rules in `@media` on a viewport of 800 by 600 pixels (Media Queries 4, sections 2 and 3).
+pub(crate) const MEDIA: &str = r#"["div"]|@media not (foo){div{height:1px}} => height:auto
+["div"]|@media (foo) or (width > 1px){div{height:1px}} => height:64
+["div"]|@media screen{div{height:1px}} => height:64
+["div"]|@media print{div{height:1px}} => height:auto
+["div"]|@media print, (orientation: landscape){div{height:1px}} => height:64
+["div"]|@media and{div{height:1px}} => height:auto
+["div"]|@media (a){div{height:1px}} => height:auto
+["div"]|@media (width > 1px and (a){div{height:1px}} => height:auto
+["div"]|@media (width:800px){@media (height<600px){div{height:1px}}div{width:1px}} => height:auto width:64
+["div"]|@media (min-width:800px){div{height:1px}}@media (width>50em){div{height:2px}} => height:64"#;

@@ -1,7 +1,7 @@
 //! Rows of pages with the styles of their elements.
 use crate::pages::{read_page, style_at};
 use crate::printing::print_final;
-use crate::rows::{EXAMPLES, KEYWORDS, LENGTHS, ORDERS};
+use crate::rows::{EXAMPLES, KEYWORDS, LENGTHS, MEDIA, ORDERS, REFERENCES};
 use port_core::{Steps, Text};
 use prop_table::{Final, Keyword, Prop, Style, all_props, initial, property_of_name};
 use std::alloc::Global;
@@ -63,6 +63,34 @@ fn keywords_stand_for_values(rt: HostRuntime) -> Result<(), Fail> {
 #[test]
 fn lengths_refer_to_fonts(rt: HostRuntime) -> Result<(), Fail> {
     check_rows(&rt, rt.alloc(), LENGTHS)
+}
+
+#[test]
+fn references_are_replaced(rt: HostRuntime) -> Result<(), Fail> {
+    check_rows(&rt, rt.alloc(), REFERENCES)
+}
+
+#[test]
+fn rules_in_media_blocks_apply_by_the_viewport(rt: HostRuntime) -> Result<(), Fail> {
+    check_rows(&rt, rt.alloc(), MEDIA)
+}
+
+#[test]
+fn an_environment_is_in_order_of_name(rt: HostRuntime) -> Result<(), Fail> {
+    let alloc = rt.alloc();
+    let page = read_page(
+        &rt,
+        alloc,
+        r#"["div",["p"]]"#,
+        "div{--b:2;--c:x}p{--B:1;--a: y  z ;--c:initial}",
+    )?;
+    let styled = style_at(&rt, alloc, &page, 1, &mut Steps::new(()))?;
+    let env = styled.env();
+    assert_eq!(rt; env.len(), 3);
+    assert_eq!(rt; env.name_at(0), Some("--B"));
+    assert_eq!(rt; env.name_at(1), Some("--a"));
+    assert_eq!(rt; env.name_at(2), Some("--b"));
+    Ok(())
 }
 
 #[test]

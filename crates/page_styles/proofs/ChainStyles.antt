@@ -20,7 +20,7 @@ use Rattle.value_model.specs.declared.length_unit.Bases.{Bases}
 -- the style of an element of a page, by its parent and by what lengths refer to
 abbrev pub style_by : Page → ℕ → Option Styling → Bases → Styling
 style_by page i parent b = styling_of (record {
-  cascaded = cascaded_of (applied_to page.book page.root i);
+  cascaded = cascaded_of (applied_to page.book page.viewport page.root i);
   parent = parent;
   bases = b;
 })

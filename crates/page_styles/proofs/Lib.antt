@@ -1,3 +1,4 @@
 pub mod ChainStyles
 pub mod IsPathAbove
 pub mod IsUnbuilt
+pub mod InContainer

@@ -1,3 +1,2 @@
 -- What private functions cite.
 pub mod Sources
-pub mod Unbuilt

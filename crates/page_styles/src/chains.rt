@@ -123,7 +123,17 @@ fn chain_at_root<L: Drop>(
     let initial = initial_font_size();
     let bases = bases_in(from.viewport, initial, initial);
     let parent = styled_of(parent);
-    let styled = styled_element(alloc, from.doc, id, from.book, room, parent, &bases, steps)?;
+    let styled = styled_element(
+        alloc,
+        from.doc,
+        id,
+        from.book,
+        from.viewport,
+        room,
+        parent,
+        &bases,
+        steps,
+    )?;
     let rem = font_size_of(styled.style());
     Ok(Chain { styled, rem })
 }
@@ -165,6 +175,7 @@ fn chain_of_child<L: Drop>(
         from.doc,
         id,
         from.book,
+        from.viewport,
         room,
         Some(&parent.styled),
         &bases,

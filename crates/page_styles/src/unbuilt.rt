@@ -1,21 +1,21 @@
 //! Which rules and `style` attributes have forms that are not built yet.
 ghost use Rattle.css_model.specs.Components.{all_tokens_of, close_tokens, tokens_of};
-ghost use Rattle.css_rules.specs.Views.{declaration_view, declarations_view, sheet_view};
+ghost use Rattle.css_rules.specs.Views.{condition_lists, conditions_at, declaration_view, declarations_view, rule_view, sheet_view};
 ghost use Rattle.css_tokens.specs.Nested.{component_view, components_view};
-ghost use Rattle.page_styles.specs.inner.Unbuilt.{is_unbuilt_rule_of, stands_in};
 ghost use Rattle.request_model.specs.UnbuiltStyles as model;
 ghost use Rattle.rules_model.specs.Sheets.{style_attr_of};
 ghost use Rattle.std.specs.List.{list_any};
-ghost use Rattle.std.specs.Prelude.{◌≡◌, IfOk, length, map};
+ghost use Rattle.std.specs.Prelude.{◌≡◌, IfOk, map};
 ghost use Rattle.std.specs.Str.{chars, str_eq_ignore_ascii_case};
 
 use css_model::{Token, TokenType};
-use css_rules::{Component, Declaration, Sheet, StyleRule, parse_style_attr};
+use css_rules::{Component, Condition, Declaration, Sheet, StyleRule, parse_style_attr};
 use css_tokens::is_word;
 use port_core::{NoMemory, Text};
+use rules_model::ConditionalRule;
 use std::alloc::Global;
 
-/// Returns whether a rule of a sheet stands in a condition, or has a declaration that is not built.
+/// Returns whether a rule of a sheet stands in `@container`, or has a declaration that is not built.
 #[tactic(auto, using(crate::proofs::IsUnbuilt::any_sheet))]
 pub fn any_unbuilt_rule(sheets: &[Sheet]) -> bool
     ensures { result ≡ list_any (list_any model.is_unbuilt_rule) (map sheet_view sheets.now) }
@@ -28,16 +28,17 @@ pub fn any_unbuilt_rule(sheets: &[Sheet]) -> bool
     false
 }
 
-#[tactic(auto, using(crate::proofs::IsUnbuilt::rules_of_sheet))]
 fn has_unbuilt_rule(sheet: &Sheet) -> bool
     ensures { result ≡ list_any model.is_unbuilt_rule (sheet_view sheet.now) }
 {
-    any_of_rules(sheet.rules.as_slice(), sheet.conditions.len())
+    any_of_rules(sheet.rules.as_slice(), sheet.conditions.as_slice())
 }
 
-/// Returns whether one of the rules is such, in a sheet with so many conditions.
-fn any_of_rules(rules: &[StyleRule], conditions: usize) -> bool
-    ensures { result ≡ list_any (is_unbuilt_rule_of conditions) rules.now }
+/// Returns whether one of the rules is such, in a sheet with these conditions.
+#[tactic(auto, using(crate::proofs::IsUnbuilt::any_rule))]
+fn any_of_rules(rules: &[StyleRule], conditions: &[Condition]) -> bool
+    ensures { result ≡ list_any model.is_unbuilt_rule
+        (map (rule_view (condition_lists conditions.now)) rules.now) }
 {
     for rule in rules {
         if is_unbuilt_rule(rule, conditions) {
@@ -47,19 +48,39 @@ fn any_of_rules(rules: &[StyleRule], conditions: usize) -> bool
     false
 }
 
-fn is_unbuilt_rule(rule: &StyleRule, conditions: usize) -> bool
-    ensures { result ≡ is_unbuilt_rule_of conditions rule.now }
+fn is_unbuilt_rule(rule: &StyleRule, conditions: &[Condition]) -> bool
+    ensures { result ≡ model.is_unbuilt_rule (rule_view (condition_lists conditions.now) rule.now) }
 {
-    stands_in(rule.around, conditions) || has_unbuilt(rule.declarations.as_slice())
+    is_in_container(rule.around, conditions) || has_unbuilt(rule.declarations.as_slice())
 }
 
-/// Returns whether `place` is that of one of so many conditions.
-fn stands_in(place: Option<usize>, conditions: usize) -> bool
-    ensures { result ≡ stands_in place conditions }
+/// Returns whether one of the conditions from that in `place` outwards is that of a container. Each
+/// stands before those in it.
+fn is_in_container(place: Option<usize>, conditions: &[Condition]) -> bool
+    ensures { result ≡ model.any_container (conditions_at (condition_lists conditions.now) place) }
 {
-    match place {
-        Some(place) => place < conditions,
-        None => false,
+    let mut within = conditions.len();
+    let mut next = place;
+    while let Some(place) = next {
+        if place >= within {
+            return false;
+        }
+        let condition = &conditions[place];
+        if is_container(condition.at_rule) {
+            return true;
+        }
+        within = place;
+        next = condition.around;
+    }
+    false
+}
+
+fn is_container(at_rule: ConditionalRule) -> bool
+    ensures { result ≡ model.is_container at_rule }
+{
+    match at_rule {
+        ConditionalRule::Media => false,
+        ConditionalRule::Container => true,
     }
 }
 

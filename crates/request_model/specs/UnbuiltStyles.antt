@@ -1,4 +1,4 @@
--- Which pages have styles that are not built yet: those with units of containers, or conditions.
+-- Which pages have styles that are not built yet: those with units of containers, or conditions of containers.
 use Rattle.std.specs.Prelude.{ℕ, ◌||◌, List, [], ◌∷◌, codes, Bool, true, false}
 use Rattle.std.specs.List.{list_any}
 use Rattle.std.specs.Option.{option_map_or}
@@ -11,6 +11,8 @@ use Rattle.css_model.specs.declared.token.TokenType.TheVariants.{Dimension}
 use Rattle.page_model.specs.Document.{Node, value_at}
 use Rattle.page_model.specs.Pages.{Page}
 use Rattle.rules_model.specs.Declarations.{Declaration}
+use Rattle.rules_model.specs.declared.conditional_rule.ConditionalRule.{ConditionalRule}
+use Rattle.rules_model.specs.declared.conditional_rule.ConditionalRule.TheVariants.{Media, Container}
 use Rattle.rules_model.specs.Rules.{Condition, StyleRule}
 use Rattle.rules_model.specs.Sheets.{style_attr_of, style_rules_of}
 use Rattle.selectors_model.specs.Matching.{elements_of}
@@ -45,13 +47,17 @@ has_unbuilt ds = list_any is_unbuilt_declaration ds
 
 -- ---- pages
 
-abbrev pub is_conditional : List Condition → Bool
-is_conditional [] = false
-is_conditional (c ∷ around) = true
+abbrev pub is_container : ConditionalRule → Bool
+is_container Media = false
+is_container Container = true
 
--- a rule inside `@media` or `@container`, or with such a declaration
+-- one of these conditions is that of a container (CSS Conditional 5, section 5.4)
+abbrev pub any_container : List Condition → Bool
+any_container conditions = list_any (λ c. is_container c.at_rule) conditions
+
+-- a rule inside `@container`, or with such a declaration
 abbrev pub is_unbuilt_rule : StyleRule → Bool
-is_unbuilt_rule r = is_conditional r.conditions || has_unbuilt r.declarations
+is_unbuilt_rule r = any_container r.conditions || has_unbuilt r.declarations
 
 abbrev pub has_unbuilt_rule : Text → Bool
 has_unbuilt_rule css = list_any is_unbuilt_rule (style_rules_of css)

@@ -73,13 +73,19 @@ pub fn examples_of_unbuilt_values()
     ensures later { has_unbuilt (style_attr_of (codes "a:b;width:1cqw")) ≡ true }
 {}
 
-/// Rules inside conditions, rules with such declarations, and `style` attributes with them.
+/// Rules inside conditions of containers, rules with such declarations, and `style` attributes with
+/// them.
 #[tactic(auto, unfolding(css_model::specs::inner::Nesting::levels_of, css_model::specs::inner::Pieces::pieces_after, css_model::specs::inner::Fronts::parts_after))]
 pub fn examples_of_unbuilt_pages()
     ensures plain { has_unbuilt_rule (codes "p{width:1px}") ≡ false }
-    ensures media { has_unbuilt_rule (codes "@media print{p{}}") ≡ true }
+    ensures media { has_unbuilt_rule (codes "@media print{p{}}") ≡ false }
+    ensures media_of_units { has_unbuilt_rule (codes "@media (width>1cqw){p{}}") ≡ false }
+    ensures declaration_in_media { has_unbuilt_rule (codes "@media print{p{a:1cqw}}") ≡ true }
     ensures container { has_unbuilt_rule (codes "@container (width>1px){p{}}") ≡ true }
-    ensures no_rule { has_unbuilt_rule (codes "@media print{}") ≡ false }
+    ensures in_media { has_unbuilt_rule (codes "@media print{@container (width>1px){p{}}}") ≡ true }
+    ensures around_media { has_unbuilt_rule (codes "@container (width>1px){@media print{p{}}}") ≡ true }
+    ensures beside_media { has_unbuilt_rule (codes "@media print{@container (width>1px){}p{}}") ≡ false }
+    ensures no_rule { has_unbuilt_rule (codes "@container (width>1px){}") ≡ false }
     ensures other_at_rule { has_unbuilt_rule (codes "@font-face{a:1cqw}") ≡ false }
     ensures at_rule_inside { has_unbuilt_rule (codes "p{@x{a:1cqw}}") ≡ false }
     ensures in_a_selector { has_unbuilt_rule (codes "p:not(1cqw){}") ≡ false }

@@ -10,6 +10,7 @@ use Rattle.selectors_model.specs.Grammar.{selector_list_of}
 use Rattle.selectors_model.specs.Selectors.{SelectorList}
 use Rattle.cascade_core.specs.Numbers.{AreNumbered}
 use Rattle.cascade_core.specs.Views.{rules_view}
+use Rattle.cascade_core.specs.inner.Media.{MediaPlaces, media_at}
 use Rattle.cascade_core.specs.declared.draft.Draft.{Draft}
 
 abbrev pub draft_view : Draft → List BookRule
@@ -26,20 +27,22 @@ pub record Adds (old new : Draft) (added : List BookRule) (most : ℕ) : Type 0 
   pub book : draft_view new ≡ draft_view old ++ added
   pub count : length new.rules ≤ length old.rules + most
 
--- ---- the rules of a sheet
+-- ---- the rules of a sheet, where these are the media queries up to each of its conditions
 
-abbrev pub rule_with_selectors : Origin → StyleRule → SelectorList → BookRule
-rule_with_selectors origin r selectors = record {
+abbrev pub rule_with_selectors : Origin → MediaPlaces → StyleRule → SelectorList → BookRule
+rule_with_selectors origin places r selectors = record {
   origin = origin;
   selectors = selectors;
+  media = media_at places r.around;
   declarations = kept_declarations (declarations_view r.declarations);
 }
 
 -- the rule, if its prelude is a selector list
-abbrev pub book_rule_of : Origin → StyleRule → Option BookRule
-book_rule_of origin r =
-    option_map (rule_with_selectors origin r) (selector_list_of (components_view r.prelude))
+abbrev pub book_rule_of : Origin → MediaPlaces → StyleRule → Option BookRule
+book_rule_of origin places r =
+    option_map (rule_with_selectors origin places r) (selector_list_of (components_view r.prelude))
 
-abbrev pub book_rules_of : Origin → List StyleRule → List BookRule
-book_rules_of origin [] = []
-book_rules_of origin (r ∷ rules) = in_front_if (book_rule_of origin r) (book_rules_of origin rules)
+abbrev pub book_rules_of : Origin → MediaPlaces → List StyleRule → List BookRule
+book_rules_of origin places [] = []
+book_rules_of origin places (r ∷ rules) =
+    in_front_if (book_rule_of origin places r) (book_rules_of origin places rules)

@@ -1,16 +1,19 @@
 -- Words of the examples: styles of elements in small documents with small sheets.
-use Rattle.std.specs.Prelude.{ℕ, ◌==◌, pos, if◌then◌else◌, List, [], ◌∷◌, ◌++◌, map, codes, Some, None, is_some}
+use Rattle.std.specs.Prelude.{ℕ, ◌==◌, pos, if◌then◌else◌, List, [], ◌∷◌, ◌++◌, map, codes, Some, None, is_some, false}
 use Rattle.css_model.specs.Classes.{Text}
 use Rattle.custom_model.specs.NamedValues.{NamedValues}
 use Rattle.custom_model.specs.ValueText.{value_text}
 use Rattle.page_model.specs.Document.{Node, element, text, no_nodes, node}
 use Rattle.rules_model.specs.Sheets.{style_rules_of}
+use Rattle.conditions_model.specs.MediaQueries.{MediaQuery, type_query}
+use Rattle.conditions_model.specs.declared.media_type.MediaType.{MediaType}
 use Rattle.value_model.specs.declared.prop.Prop.{Prop}
+use Rattle.value_model.specs.declared.prop.Prop.TheVariants.{Width}
 use Rattle.value_model.specs.Properties.{is_same_prop, pixels, properties, property}
 use Rattle.value_model.specs.Calculations.{in_units, leaf as literal}
 use Rattle.value_model.specs.Values.{Final, length as length_value}
-use Rattle.cascade_model.specs.declared.origin.Origin.TheVariants.{UserAgent}
-use Rattle.cascade_model.specs.Books.{author_rules, book_rules}
+use Rattle.cascade_model.specs.declared.origin.Origin.TheVariants.{UserAgent, Author}
+use Rattle.cascade_model.specs.Books.{BookRule, author_rules, book_rules}
 use Rattle.cascade_model.specs.Defaulting.{Style, font_size_in, style_of_border, value_in}
 use Rattle.cascade_model.specs.Styling.{Styling}
 use Rattle.cascade_model.specs.DocumentStyles.{AreStyled, Page, Styles, child_style, root_style}
@@ -63,6 +66,28 @@ of_grandchild page p = value_in (style_of_grandchild page).style p
 -- a length in units
 abbrev pub units : ℕ → Final
 units n = length_value (literal (in_units (pos n)))
+
+-- ---- media queries
+
+-- the width of a `div` with this sheet of the author
+abbrev pub width_by : Text → Final
+width_by author = of_root (page_with [] author (leaf 0 (codes "div") [])) Width
+
+-- the same on a viewport of 600 by 800 pixels
+abbrev pub width_on_high : Text → Final
+width_on_high author = value_in (root_style (record {
+  book = author_rules (style_rules_of author ∷ []);
+  viewport = record { width = 600; height = 800 };
+  root = leaf 0 (codes "div") [];
+}) 0).style Width
+
+-- the media queries around each rule of a sheet
+abbrev pub media_of_sheet : Text → List (List (List MediaQuery))
+media_of_sheet sheet = map (λ (r : BookRule). r.media) (book_rules Author (style_rules_of sheet))
+
+-- a list of one query, a media type alone
+abbrev pub only_type : MediaType → List MediaQuery
+only_type media_type = type_query false media_type None ∷ []
 
 -- ---- whole styles
 

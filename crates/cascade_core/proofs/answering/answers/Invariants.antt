@@ -1,13 +1,14 @@
--- The answers so far, and Yes for each rule that is left, are all.
+-- The answers so far, and those of the rules that are left, are all.
 use Rattle.std.proofs.Common.{◌≡◌, ◌≤◌, ◌-◌, ◌++◌, length, drop}
-use Rattle.cascade_core.specs.Answers.{all_yes}
+use Rattle.cascade_core.specs.inner.Answers.{answers_at}
 use Rattle.cascade_core.proofs.answering.answers.Given as goal
 
-abbrev pub invariant-loop-answers : goal.invariant-loop-answers
-invariant-loop-answers g l = record {
-  all : l.answers ++ all_yes (drop (length l.answers) l.matched.pairs) ≡ all_yes l.matched.pairs;
+abbrev pub invariant-loop-pair : goal.invariant-loop-pair
+invariant-loop-pair g l = record {
+  all : l.answers ++ answers_at l.v l.book.bodies (drop (length l.answers) l.matched.pairs)
+      ≡ answers_at l.v l.book.bodies l.matched.pairs;
   within : length l.answers ≤ length l.matched.pairs;
 }
 
-abbrev pub decreases-loop-answers : goal.decreases-loop-answers
-decreases-loop-answers g l = length l.matched.pairs - length l.answers
+abbrev pub decreases-loop-pair : goal.decreases-loop-pair
+decreases-loop-pair g l = length l.matched.pairs - length l.answers

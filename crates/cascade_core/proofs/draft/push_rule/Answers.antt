@@ -19,7 +19,11 @@ pub returns : goal.returns
 returns c =
     let new : Draft = record { rules = c.push.new.self; bodies = c.push-2.new.self } in
     let rule : Rule = record { number = length c.as_slice.result.now; list = c.args.list } in
-    let body : RuleBody = record { origin = c.args.origin; declarations = c.args.declarations } in
+    let body : RuleBody = record {
+      origin = c.args.origin;
+      media = c.args.media;
+      declarations = c.args.declarations;
+    } in
     on_ok_weaker c.push-2.result
     (λ pushed. rule-added c.args.draft.now new rule body c.requires.sound
     (ap length c.as_slice.ensures.rules) c.in_ok-push.ensures.pushed pushed)
