@@ -1,5 +1,5 @@
 //! The calls of the cascade one after another, and what they log.
-use crate::pages::{bases, medium, read_page, style_at};
+use crate::pages::{VIEWPORT, bases, medium, read_page, style_at};
 use cascade_core::{Styled, answers, resolve, room_for, winning};
 use conditions_model::Tri;
 use port_core::{Kind, Seq, Steps};
@@ -24,7 +24,7 @@ fn the_calls_make_the_same_style(rt: HostRuntime) -> Result<(), Fail> {
         &rt,
         alloc,
         r#"["p"]"#,
-        "p{color:red}i{color:blue}|p{margin:1px}",
+        "p{color:red}i{color:blue}@media print{p{color:lime}}|@media screen{p{margin:1px}}",
     )?;
     let mut steps = Steps::new(());
     let mut room: Matched<()> = room_for(alloc, &page.book)?;
@@ -32,9 +32,11 @@ fn the_calls_make_the_same_style(rt: HostRuntime) -> Result<(), Fail> {
         panic!(rt; "no element");
     }
     match_rules(&page.doc, 0, page.book.rules(), &mut room, &mut steps);
-    let answers = answers(alloc, &page.book, &room)?;
-    assert_eq!(rt; answers.len(), 4);
-    assert_eq!(rt; answers.get(0), Some(&Tri::Yes));
+    let answers = answers(alloc, &page.book, &room, VIEWPORT)?;
+    assert_eq!(rt; answers.len(), 5);
+    assert_eq!(rt; answers.get(2), Some(&Tri::Yes));
+    assert_eq!(rt; answers.get(3), Some(&Tri::No));
+    assert_eq!(rt; answers.get(4), Some(&Tri::Yes));
     let winners = winning(alloc, &page.book, &room, &answers, &Seq::new(alloc))?;
     let b = bases(medium(), medium());
     let parent: Option<&Styled<()>> = None;

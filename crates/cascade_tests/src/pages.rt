@@ -6,6 +6,7 @@ use cascade_core::{RuleBook, Styled, room_for, styled_element};
 use css_rules::{Sheet, parse_sheet};
 use dom_arena::{Doc, Tree};
 use jsonml_reader::read_tree;
+use page_model::Viewport;
 use port_core::{NodeId, Seq, Steps};
 use prop_table::{Bases, Computed, Final, Prop};
 use rules_model::{MAX_SHEETS, MAX_STYLE_RULES};
@@ -71,7 +72,13 @@ fn add_sheet(
     Ok(())
 }
 
-/// What lengths refer to in a viewport of 800 by 600 pixels.
+/// The viewport of all tests.
+pub(crate) const VIEWPORT: Viewport = Viewport {
+    width: 800,
+    height: 600,
+};
+
+/// What lengths refer to in this viewport.
 pub(crate) fn bases(em: Units, rem: Units) -> Bases {
     Bases {
         em,
@@ -139,6 +146,7 @@ fn element_style(
         &page.doc,
         id,
         &page.book,
+        VIEWPORT,
         &mut room,
         parent.as_ref(),
         b,

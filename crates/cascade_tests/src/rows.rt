@@ -56,3 +56,28 @@ pub(crate) const LENGTHS: &str =
 ["div",["p"]]|p{border-left-style:solid} => border-left-width:192
 ["div",["p"]]|div{border-left:2px solid}p{border-left:inherit} => border-left-width:128
 ["div",["p"]]|div{border-left-width:2px}p{border-left-width:inherit;border-left-style:solid} => border-left-width:0"#;
+
+/// Rules in `@media` blocks, on a viewport of 800 by 600 pixels (CSS Conditional 3, section 2; Media
+/// Queries 4, section 2).
+pub(crate) const MEDIA: &str = r#"["div"]|@media not (foo){div{height:1px}} => height:auto
+["div"]|@media (foo) or (width > 1px){div{height:1px}} => height:64
+["div"]|@media screen{div{height:1px}} => height:64
+["div"]|@media print{div{height:1px}} => height:auto
+["div"]|@media print, (orientation: landscape){div{height:1px}} => height:64
+["div"]|@media and{div{height:1px}} => height:auto
+["div"]|@media (a){div{height:1px}} => height:auto
+["div"]|@media (width > 1px and (a){div{height:1px}} => height:auto
+["div"]|@media{div{height:1px}} => height:64
+["div"]|@media (width = 100cqw) and (height = 100cqh){div{height:1px}} => height:64
+["div"]|div{font-size:32px}@media (width = 50em){div{height:1px}} => height:64 font-size:2048
+["div"]|@media screen{@media (width > 1px){div{height:1px}}} => height:64
+["div"]|@media screen{@media print{div{height:1px}}} => height:auto
+["div"]|@media print{@media screen{div{height:1px}}} => height:auto
+["div"]|@media screen{@media print{@media all{div{height:1px}}div{width:1px}}div{margin-top:1px}}div{margin-left:1px} => height:auto width:auto margin-top:64 margin-left:64
+["div"]|@media screen{div{height:1px}}@media print{div{height:2px}} => height:64
+["div"]|@media screen{div{height:1px}}|@media print{div{height:2px}} => height:64
+["div"]|@media screen{div{height:1px}}div{height:2px} => height:128
+["div"]|@media print{div{height:1px!important}}div{height:2px} => height:128
+["div"]|@media screen{*{height:1px}}div{height:2px} => height:128
+["div",["p"]]|@media screen{div{color:red}}@media print{p{color:blue}} => color:#ff0000ff
+["p"]|@media print{p{margin-top:1px}} => margin-top:1024"#;

@@ -1,7 +1,7 @@
 //! Rows of pages with the styles of their elements.
 use crate::pages::{read_page, style_at};
 use crate::printing::print_final;
-use crate::rows::{EXAMPLES, KEYWORDS, LENGTHS, ORDERS};
+use crate::rows::{EXAMPLES, KEYWORDS, LENGTHS, MEDIA, ORDERS};
 use port_core::{Steps, Text};
 use prop_table::{Final, Keyword, Prop, Style, all_props, initial, property_of_name};
 use std::alloc::Global;
@@ -63,6 +63,11 @@ fn keywords_stand_for_values(rt: HostRuntime) -> Result<(), Fail> {
 #[test]
 fn lengths_refer_to_fonts(rt: HostRuntime) -> Result<(), Fail> {
     check_rows(&rt, rt.alloc(), LENGTHS)
+}
+
+#[test]
+fn rules_apply_where_media_queries_match(rt: HostRuntime) -> Result<(), Fail> {
+    check_rows(&rt, rt.alloc(), MEDIA)
 }
 
 #[test]
