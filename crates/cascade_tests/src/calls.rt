@@ -24,7 +24,7 @@ fn the_calls_make_the_same_style(rt: HostRuntime) -> Result<(), Fail> {
         &rt,
         alloc,
         r#"["p"]"#,
-        "p{color:red}i{color:blue}|p{margin:1px}",
+        "p{color:red}i{color:blue}@media print{p{color:lime}}|@media screen{p{margin:1px}}",
     )?;
     let mut steps = Steps::new(());
     let mut room: Matched<()> = room_for(alloc, &page.book)?;
@@ -33,8 +33,10 @@ fn the_calls_make_the_same_style(rt: HostRuntime) -> Result<(), Fail> {
     }
     match_rules(&page.doc, 0, page.book.rules(), &mut room, &mut steps);
     let answers = answers(alloc, &page.book, &room, VIEWPORT)?;
-    assert_eq!(rt; answers.len(), 4);
-    assert_eq!(rt; answers.get(0), Some(&Tri::Yes));
+    assert_eq!(rt; answers.len(), 5);
+    assert_eq!(rt; answers.get(2), Some(&Tri::Yes));
+    assert_eq!(rt; answers.get(3), Some(&Tri::No));
+    assert_eq!(rt; answers.get(4), Some(&Tri::Yes));
     let winners = winning(alloc, &page.book, &room, &answers, &Seq::new(alloc))?;
     let b = bases(medium(), medium());
     let parent: Option<&Styled<()>> = None;

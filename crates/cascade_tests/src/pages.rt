@@ -72,7 +72,7 @@ fn add_sheet(
     Ok(())
 }
 
-/// The viewport.
+/// The viewport of all tests.
 pub(crate) const VIEWPORT: Viewport = Viewport {
     width: 800,
     height: 600,

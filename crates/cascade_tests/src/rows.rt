@@ -69,7 +69,8 @@ pub(crate) const REFERENCES: &str =
 ["div",{"style":"width:1px;width:var(a);height:1px;height:var(--a) );max-width:var(--a,1px 2px)"}] => width:64 height:auto max-width:none
 ["div",["p"]]|p{--a:1px!important}p{--a:2px}#x{--a:3px}p{width:var(--a);HEIGHT:VAR(--A,4px)} => width:64 height:256"#;
 
-/// Rules in `@media` on a viewport of 800 by 600 pixels (Media Queries 4, sections 2 and 3).
+/// Rules in `@media` blocks, on a viewport of 800 by 600 pixels (CSS Conditional 3, section 2; Media
+/// Queries 4, section 2).
 pub(crate) const MEDIA: &str = r#"["div"]|@media not (foo){div{height:1px}} => height:auto
 ["div"]|@media (foo) or (width > 1px){div{height:1px}} => height:64
 ["div"]|@media screen{div{height:1px}} => height:64
@@ -79,4 +80,18 @@ pub(crate) const MEDIA: &str = r#"["div"]|@media not (foo){div{height:1px}} => h
 ["div"]|@media (a){div{height:1px}} => height:auto
 ["div"]|@media (width > 1px and (a){div{height:1px}} => height:auto
 ["div"]|@media (width:800px){@media (height<600px){div{height:1px}}div{width:1px}} => height:auto width:64
-["div"]|@media (min-width:800px){div{height:1px}}@media (width>50em){div{height:2px}} => height:64"#;
+["div"]|@media (min-width:800px){div{height:1px}}@media (width>50em){div{height:2px}} => height:64
+["div"]|@media{div{height:1px}} => height:64
+["div"]|@media (width = 100cqw) and (height = 100cqh){div{height:1px}} => height:64
+["div"]|div{font-size:32px}@media (width = 50em){div{height:1px}} => height:64 font-size:2048
+["div"]|@media screen{@media (width > 1px){div{height:1px}}} => height:64
+["div"]|@media screen{@media print{div{height:1px}}} => height:auto
+["div"]|@media print{@media screen{div{height:1px}}} => height:auto
+["div"]|@media screen{@media print{@media all{div{height:1px}}div{width:1px}}div{margin-top:1px}}div{margin-left:1px} => height:auto width:auto margin-top:64 margin-left:64
+["div"]|@media screen{div{height:1px}}@media print{div{height:2px}} => height:64
+["div"]|@media screen{div{height:1px}}|@media print{div{height:2px}} => height:64
+["div"]|@media screen{div{height:1px}}div{height:2px} => height:128
+["div"]|@media print{div{height:1px!important}}div{height:2px} => height:128
+["div"]|@media screen{*{height:1px}}div{height:2px} => height:128
+["div",["p"]]|@media screen{div{color:red}}@media print{p{color:blue}} => color:#ff0000ff
+["p"]|@media print{p{margin-top:1px}} => margin-top:1024"#;

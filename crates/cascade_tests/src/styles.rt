@@ -71,7 +71,7 @@ fn references_are_replaced(rt: HostRuntime) -> Result<(), Fail> {
 }
 
 #[test]
-fn rules_in_media_blocks_apply_by_the_viewport(rt: HostRuntime) -> Result<(), Fail> {
+fn rules_apply_where_media_queries_match(rt: HostRuntime) -> Result<(), Fail> {
     check_rows(&rt, rt.alloc(), MEDIA)
 }
 

@@ -3,7 +3,7 @@ use crate::tests::expect_replies;
 use std::test::Fail;
 
 /// Scripts with their replies, a row for each behaviour.
-const ROWS: [(&[u8], &[u8]); 8] = [
+const ROWS: [(&[u8], &[u8]); 9] = [
     // The request has an id, which is an integer; it needs a page, and that is asked first.
     (
         br#"{"do":"style"}
@@ -160,6 +160,59 @@ box-sizing: content-box
 font-size: 1280
 line-height: normal
 color: #ff0000ff
+background-color: #00000000
+text-align: left
+white-space: normal
+overflow: visible
+contain: none
+container-type: normal
+container-name: none
+visibility: visible
+opacity: 1000000
+font-style: normal
+font-weight: 400
+z-index: auto
+text-decoration-line: none
+pointer-events: auto
+ok
+"#,
+    ),
+    // Rules in `@media` blocks, that match and that do not.
+    (
+        br#"{"do":"load","width":800,"height":600,"doc":["div"],"sheets":["@media not (foo){div{width:1px}}@media (foo) or (width > 1px){div{height:1px}}@media screen{div{min-width:1px}}@media print{div{min-height:1px}}@media screen{@media (orientation: portrait){div{max-width:1px}}}@media (min-width: 800px){@media all{div{max-height:1px}}}@media print, (orientation: landscape){div{margin-top:1px}}@media and{div{margin-right:1px}}@media (a){div{margin-bottom:1px}}@media (width > 1px and (a){div{margin-left:1px}}"]}
+{"do":"style","id":0}"#,
+        br#"ok 0 1
+display: block
+width: auto
+height: 64
+min-width: 64
+min-height: 0
+max-width: none
+max-height: 64
+margin-top: 64
+margin-right: 0
+margin-bottom: 0
+margin-left: 0
+padding-top: 0
+padding-right: 0
+padding-bottom: 0
+padding-left: 0
+border-top-width: 0
+border-right-width: 0
+border-bottom-width: 0
+border-left-width: 0
+border-top-style: none
+border-right-style: none
+border-bottom-style: none
+border-left-style: none
+border-top-color: currentcolor
+border-right-color: currentcolor
+border-bottom-color: currentcolor
+border-left-color: currentcolor
+box-sizing: content-box
+font-size: 1024
+line-height: normal
+color: #000000ff
 background-color: #00000000
 text-align: left
 white-space: normal
@@ -344,8 +397,8 @@ custom "--q" "\"a  b\\\\\""
 ok
 "#,
     ),
-    // What is not built: units of containers, in a fallback and in a custom property too, and conditions. A
-    // node that is not there is told first, and a sheet that is taken out does not count.
+    // What is not built: units of containers, in a fallback and in a custom property too, and conditions of
+    // containers. A node that is not there is told first, and a sheet that is taken out does not count.
     (
         br#"{"do":"load","width":1,"height":1,"doc":["div",["p",{"style":"zz:f(var(--a,1CQW))"}]]}
 {"do":"style","id":0}
@@ -355,7 +408,7 @@ ok
 {"do":"style","id":0}
 {"do":"sheet","at":0,"css":"q{width:1cqw}"}
 {"do":"style","id":0}
-{"do":"sheet","at":0,"css":"@media print{q{}}"}
+{"do":"sheet","at":0,"css":"@media print{@container (width>1px){q{}}}"}
 {"do":"style","id":0}
 {"do":"sheet","at":0,"css":null}
 {"do":"style","id":1}"#,
