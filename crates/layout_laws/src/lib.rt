@@ -2,3 +2,4 @@
 #![tactic(auto)]
 
 pub mod assignments;
+pub mod page_assignments;
