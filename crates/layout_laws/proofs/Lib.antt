@@ -7,3 +7,4 @@ pub mod LaidEntries
 pub mod ElementIds
 pub mod Lookups
 pub mod ConsistentPages
+pub mod ShownPages

@@ -3,3 +3,4 @@
 
 pub mod assignments;
 pub mod page_assignments;
+pub mod shown_pages;

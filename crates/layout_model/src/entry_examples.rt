@@ -5,11 +5,12 @@ ghost use Rattle.cascade_model.specs.Defaulting.{font_size_in};
 ghost use Rattle.cascade_model.specs.DocumentStyles.{initial_font_size};
 ghost use Rattle.flow_model.specs.declared.box_kind.BoxKind.TheVariants.{Block, Inline, InlineBlock, NoBox};
 ghost use Rattle.flow_model.specs.declared.containing.Containing.{Containing};
-ghost use Rattle.flow_model.specs.Collapsing.{item_height};
+ghost use Rattle.flow_model.specs.declared.flow_item.FlowItem.TheVariants.{Child};
+ghost use Rattle.flow_model.specs.MarginSets.{alone};
 ghost use Rattle.flow_model.specs.inner.Examples.{block_in, block_in_both, inline_block_in};
 ghost use Rattle.layout_model.specs.Above.{Above, Styling, above_children, above_root, containing_children, font_size_above, kind_below, laid_as, viewport_containing};
 ghost use Rattle.layout_model.specs.Assignments.{GivesNoOther, Holds, IsConsistent};
-ghost use Rattle.layout_model.specs.Contents.{contents_of, item_of, outer_pair_of};
+ghost use Rattle.layout_model.specs.Contents.{contents_of, in_flow, item_of, outer_pair_of};
 ghost use Rattle.layout_model.specs.Entries.{Assignment, BoxResults, Entry};
 ghost use Rattle.layout_model.specs.Equations.{HasBox, IsEntry};
 ghost use Rattle.layout_model.specs.Setting.{Setting};
@@ -47,17 +48,29 @@ pub fn containing_blocks()
 
 /// Which boxes are the contents of one (CSS 2.1, section 9.2.1), and what it asks of them.
 pub fn contents()
+    ensures block_itself { in_flow Block (pos 1 ∷ []) (pos 2 ∷ []) ≡ pos 1 ∷ [] }
+    ensures contents_of_inline { in_flow Inline (pos 1 ∷ []) (pos 2 ∷ []) ≡ pos 2 ∷ [] }
+    ensures not_inline_block { in_flow InlineBlock (pos 1 ∷ []) (pos 2 ∷ []) ≡ [] }
+    ensures not_without_box { in_flow NoBox (pos 1 ∷ []) (pos 2 ∷ []) ≡ [] }
     ensures in_order { map (λ b. b.id) (contents_of (laid_by (block [] ∷ block [] ∷ inline_with [] ∷ block [] ∷ block [] ∷ block [] ∷ []) (p 0 (node (p 1 (one (empty 5))) (node (p 2 (one (empty 3))) (one (empty 4))))))
         (node (p 1 (one (empty 5))) (node (p 2 (one (empty 3))) (one (empty 4)))))
         ≡ 1 ∷ 3 ∷ 4 ∷ [] }
-    ensures no_others { map (λ b. b.id) (contents_of (laid_by (block [] ∷ without_box ∷ inline_block [] ∷ block [] ∷ []) (p 0 (node (p 1 (one (empty 3))) (node (empty 2) (one (text 4 []))))))
-        (node (p 1 (one (empty 3))) (node (empty 2) (one (text 4 [])))))
+    ensures no_others { map (λ b. b.id) (contents_of (laid_by (block [] ∷ without_box ∷ inline_block [] ∷ block [] ∷ block [] ∷ block [] ∷ []) (p 0 (node (p 1 (one (empty 3))) (node (p 2 (one (empty 5))) (one (text 4 []))))))
+        (node (p 1 (one (empty 3))) (node (p 2 (one (empty 5))) (one (text 4 [])))))
         ≡ [] }
     ensures given_nothing { contents_of (λ i. None) (one (empty 1)) ≡ [] }
     ensures outer_pair { outer_pair_of (record { id = 1; style = block ((MarginLeft, units (pos 7)) ∷ []); box = record root_box { inner = (pos 10, pos 20) } })
         ≡ (pos 17, pos 27) }
-    ensures border_box { item_height (item_of (record { id = 1; style = block []; box = record root_box { height = pos 10; used = record root_box.used { pt = pos 1; bb = pos 2 } } }))
-        ≡ pos 13 }
+    ensures item { item_of (record {
+      id = 1;
+      style = block [];
+      box = record root_box {
+        height = pos 10;
+        used = record root_box.used { pt = pos 1; bb = pos 2 };
+        placement = record root_box.placement { top = alone (pos 3); bottom = alone (pos 4); through = true; baseline = Some (pos 5) };
+      };
+    })
+        ≡ Child 1 (pos 13) (alone (pos 3)) (alone (pos 4)) true (Some (pos 5)) }
 {}
 
 /// Preferred widths come from contents, those of inline elements too, whatever is around.
@@ -90,7 +103,10 @@ pub fn entries_of_a_root()
     ensures hidden { IsEntry (record above_root { hidden = true }) (viewport_containing screen) (block []) [] root_entry → ⊥ }
     ensures width { IsEntry above_root (block_in (pos 9)) (block []) [] root_entry → ⊥ }
     ensures inner { IsEntry above_root (viewport_containing screen) (block []) [] (record root_entry { box = Some (record root_box { inner = (pos 1, pos 1) }) }) → ⊥ }
+    ensures placement { IsEntry above_root (viewport_containing screen) (block []) [] (record root_entry { box = Some (record root_box { placement = record root_box.placement { through = true } }) }) → ⊥ }
     ensures height { IsEntry above_root (viewport_containing screen) (block []) [] (record root_entry { box = Some (record root_box { height = pos 1 }) }) → ⊥ }
+    ensures height_of_its_own { IsEntry above_root (viewport_containing screen) (high 7) [] (record root_entry { style = high 7; box = Some (record root_box { used = record root_box.used { h = Some (pos 7) }; height = pos 7 }) }) }
+    ensures height_of_contents { IsEntry above_root (viewport_containing screen) (high 7) [] (record root_entry { style = high 7; box = Some (record root_box { used = record root_box.used { h = Some (pos 7) } }) }) → ⊥ }
     ensures not_a_root { IsEntry (record above_root { parent = Some (block []) }) (viewport_containing screen) (block []) [] root_entry → ⊥ }
 {}
 

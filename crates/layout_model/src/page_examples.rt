@@ -123,13 +123,15 @@ pub fn pages()
         ≡ boxed (pos 0) (pos 0) (pos 51200) (pos 2176) (pos 51200) (pos 2176)
         ∷ boxed (pos 0) (pos 0) (pos 51200) (pos 1152) (pos 51200) (pos 1088)
         ∷ boxed (pos 0) (pos 1088) (pos 51200) (pos 64) (pos 51200) (pos 64) ∷ [] }
-    ensures font_sizes { shapes_on (page_with (codes "div,p{display:block}") (codes "div{font-size:20px}p{font-size:10px;margin-top:1rem;height:2em}q{display:block;height:1em;width:2rem}")
+    ensures font_sizes { shapes_on (page_with (codes "div,p{display:block}") (codes "div{font-size:20px}p{font-size:10px;margin-top:1rem;height:2em}q{display:block;font-size:3em;height:1em;width:2rem}")
         (parent 0 (codes "div") [] (parent 1 (codes "p") [] (leaf 2 (codes "q") []))))
         ≡ boxed (pos 0) (pos 0) (pos 51200) (pos 2560) (pos 51200) (pos 2560)
         ∷ boxed (pos 0) (pos 1280) (pos 51200) (pos 1280) (pos 51200) (pos 1280)
-        ∷ boxed (pos 0) (pos 1280) (pos 2560) (pos 640) (pos 2560) (pos 640) ∷ [] }
+        ∷ boxed (pos 0) (pos 1280) (pos 2560) (pos 1920) (pos 2560) (pos 1920) ∷ [] }
     ensures em_of_the_root { shapes_on (page_with (codes "") (codes "div{margin-left:1em;height:2rem}") (leaf 0 (codes "div") []))
         ≡ boxed (pos 1024) (pos 0) (pos 50176) (pos 2048) (pos 50176) (pos 2048) ∷ [] }
+    ensures font_size_of_the_root { shapes_on (page_with (codes "") (codes "div{font-size:2rem;height:1em}") (leaf 0 (codes "div") []))
+        ≡ boxed (pos 0) (pos 0) (pos 51200) (pos 2048) (pos 51200) (pos 2048) ∷ [] }
     ensures inherited { shapes_on (page_with (codes "") (codes "div{height:3px}p{display:block;height:inherit}") (parent 0 (codes "div") [] (leaf 1 (codes "p") [])))
         ≡ boxed (pos 0) (pos 0) (pos 51200) (pos 192) (pos 51200) (pos 192)
         ∷ boxed (pos 0) (pos 0) (pos 51200) (pos 192) (pos 51200) (pos 192) ∷ [] }
