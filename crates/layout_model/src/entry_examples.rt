@@ -1,6 +1,6 @@
 //! What an element sees of what is above it, which boxes are contents of which, and which entries meet
 //! the equations.
-ghost use Rattle.std.specs.Prelude.{◌≡◌, ◌∷◌, ℕ, [], Option, None, Some, false, map, pos, true};
+ghost use Rattle.std.specs.Prelude.{◌≡◌, ◌∷◌, ◌==◌, if◌then◌else◌, ℕ, [], Option, None, Some, false, map, pos, true};
 ghost use Rattle.cascade_model.specs.Defaulting.{font_size_in};
 ghost use Rattle.cascade_model.specs.DocumentStyles.{initial_font_size};
 ghost use Rattle.flow_model.specs.declared.box_kind.BoxKind.TheVariants.{Block, Inline, InlineBlock, NoBox};
@@ -17,7 +17,9 @@ ghost use Rattle.layout_model.specs.Setting.{Setting};
 ghost use Rattle.layout_model.specs.inner.Examples.{block, empty, high, inline_block, inline_with, laid_by, one, p, root_box, root_entry, screen, units, width_at, without_box};
 ghost use Rattle.page_model.specs.Document.{no_nodes, node, text};
 ghost use Rattle.page_model.specs.Pages.{Page};
-ghost use Rattle.value_model.specs.declared.prop.Prop.TheVariants.{FontSize, MarginLeft, PaddingRight, Width};
+ghost use Rattle.value_model.specs.Values.{keyword};
+ghost use Rattle.value_model.specs.declared.keyword.Keyword.TheVariants.{InlineSize};
+ghost use Rattle.value_model.specs.declared.prop.Prop.TheVariants.{ContainerType, FontSize, MarginLeft, PaddingRight, Width};
 
 /// The style of the parent, the font size of the root, and whether an element above has no box.
 pub fn parts_from_above()
@@ -58,7 +60,8 @@ pub fn contents()
     ensures no_others { map (λ b. b.id) (contents_of (laid_by (block [] ∷ without_box ∷ inline_block [] ∷ block [] ∷ block [] ∷ block [] ∷ []) (p 0 (node (p 1 (one (empty 3))) (node (p 2 (one (empty 5))) (one (text 4 []))))))
         (node (p 1 (one (empty 3))) (node (p 2 (one (empty 5))) (one (text 4 [])))))
         ≡ [] }
-    ensures given_nothing { contents_of (λ i. None) (one (empty 1)) ≡ [] }
+    ensures given_nothing { contents_of (λ i. if i == 1 then None else Some root_entry) (one (p 1 (one (empty 2)))) ≡ [] }
+    ensures given_no_box { contents_of (λ i. Some (record root_entry { box = None })) (one (empty 1)) ≡ [] }
     ensures outer_pair { outer_pair_of (record { id = 1; style = block ((MarginLeft, units (pos 7)) ∷ []); box = record root_box { inner = (pos 10, pos 20) } })
         ≡ (pos 17, pos 27) }
     ensures item { item_of (record {
@@ -82,6 +85,8 @@ pub fn preferred_widths()
     ensures of_a_block { width_at (laid_by (block [] ∷ inline_block [] ∷ block [] ∷ block ((Width, units (pos 70)) ∷ []) ∷ []) (p 0 (one (p 1 (one (p 2 (one (empty 3)))))))) 2
         ≡ Some (pos 70) }
     ensures without_contents { width_at (laid_by (block [] ∷ inline_block [] ∷ without_box ∷ []) (p 0 (one (p 1 (one (empty 2)))))) 1
+        ≡ Some (pos 0) }
+    ensures contained { width_at (laid_by (block [] ∷ inline_block ((ContainerType, keyword InlineSize) ∷ []) ∷ block ((Width, units (pos 70)) ∷ []) ∷ []) (p 0 (one (p 1 (one (empty 2)))))) 1
         ≡ Some (pos 0) }
     ensures of_no_box { width_at (laid_by (block [] ∷ inline_with [] ∷ []) (p 0 (one (empty 1)))) 1 ≡ None }
 {}

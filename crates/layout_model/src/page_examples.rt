@@ -1,8 +1,8 @@
 //! What is shown of small pages of 800 by 600 pixels. Lengths are in units, of which a pixel has 64.
-ghost use Rattle.std.specs.Prelude.{◌≡◌, ◌∷◌, [], codes, pos};
+ghost use Rattle.std.specs.Prelude.{◌≡◌, ◌∷◌, [], codes, None, pos};
 ghost use Rattle.cascade_model.specs.inner.Examples.{leaf, page_with, parent};
-ghost use Rattle.layout_model.specs.Positions.{boxed, inline, none, shown};
-ghost use Rattle.layout_model.specs.inner.Examples.{auto, block, empty, high, inline_with, laid_by, minus, one, p, percent, shapes_by, shapes_on, units, without_box};
+ghost use Rattle.layout_model.specs.Positions.{boxed, inline, none, offset_of, shown};
+ghost use Rattle.layout_model.specs.inner.Examples.{auto, block, empty, high, inline_with, laid_by, minus, one, p, percent, root_box, shapes_by, shapes_on, units, without_box};
 ghost use Rattle.page_model.specs.Document.{no_nodes, node, text};
 ghost use Rattle.value_model.specs.declared.prop.Prop.TheVariants.{BorderLeftWidth, BorderTopWidth, Height, MarginBottom, MarginLeft, MarginRight, MarginTop, PaddingLeft, PaddingTop, Width};
 
@@ -39,6 +39,15 @@ pub fn edges()
         ∷ boxed (pos 0) (pos 0) (pos 51200) (pos 10) (pos 51200) (pos 10)
         ∷ boxed (pos 0) (pos 0) (pos 51200) (pos 50) (pos 51200) (pos 50)
         ∷ boxed (pos 0) (pos 10) (pos 51200) (pos 7) (pos 51200) (pos 7) ∷ [] }
+{}
+
+/// An offset is found by the place of the box in the contents; what is given nothing is not shown.
+pub fn places()
+    ensures second { offset_of 2 (record { id = 1; style = block []; box = root_box } ∷ record { id = 2; style = block []; box = root_box } ∷ []) (pos 7 ∷ pos 9 ∷ [])
+        ≡ pos 9 }
+    ensures not_among { offset_of 3 (record { id = 1; style = block []; box = root_box } ∷ []) (pos 7 ∷ []) ≡ pos 0 }
+    ensures no_offset { offset_of 1 (record { id = 1; style = block []; box = root_box } ∷ []) [] ≡ pos 0 }
+    ensures given_nothing { shown (λ i. None) (p 0 (one (empty 1))) ≡ [] }
 {}
 
 /// Margins pass through empty boxes and through open edges (CSS 2.1, section 8.3.1).
