@@ -1,3 +1,10 @@
 pub mod FindsAll
 pub mod FlatAssignment
 pub mod Holds
+pub mod EntryEquations
+pub mod PairsOfContents
+pub mod LaidEntries
+pub mod ElementIds
+pub mod Lookups
+pub mod ConsistentPages
+pub mod ShownPages

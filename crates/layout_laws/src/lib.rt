@@ -2,3 +2,5 @@
 #![tactic(auto)]
 
 pub mod assignments;
+pub mod page_assignments;
+pub mod shown_pages;

@@ -1,3 +1,11 @@
 pub mod Setting
 pub mod Boxes
 pub mod Consistent
+pub mod Entries
+pub mod Above
+pub mod Contents
+pub mod Equations
+pub mod Assignments
+pub mod Laid
+pub mod Positions
+pub mod inner

@@ -1,0 +1,2 @@
+-- Words of the examples.
+pub mod Examples
