@@ -14,7 +14,7 @@ pub record BoxResults : Type 0 where
   pub height : ℤ
   pub placement : Placement
 
--- what an element is given
+-- what an element is given; its style comes with its environment
 pub record Entry : Type 0 where
   pub style : Styling
   pub kind : BoxKind
