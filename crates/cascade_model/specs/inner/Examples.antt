@@ -16,7 +16,8 @@ use Rattle.cascade_model.specs.declared.origin.Origin.TheVariants.{UserAgent, Au
 use Rattle.cascade_model.specs.Books.{BookRule, author_rules, book_rules}
 use Rattle.cascade_model.specs.Defaulting.{Style, font_size_in, style_of_border, value_in}
 use Rattle.cascade_model.specs.Styling.{Styling}
-use Rattle.cascade_model.specs.DocumentStyles.{AreStyled, Page, Styles, child_style, root_style}
+use Rattle.cascade_model.specs.Cascaded.{cascaded_of}
+use Rattle.cascade_model.specs.DocumentStyles.{AreStyled, applied_to, Page, Styles, child_style, root_style}
 
 -- ---- documents
 
@@ -134,3 +135,7 @@ environment_of_root page = texts_of (root_style page 0).environment
 
 abbrev pub environment_of_child : Page → List (Text × Text)
 environment_of_child page = texts_of (style_of_child page).environment
+
+-- the custom properties that the root declares, with the values that win
+abbrev pub declared_by_root : Page → List (Text × Text)
+declared_by_root page = texts_of (cascaded_of (applied_to page.book page.viewport page.root 0)).custom

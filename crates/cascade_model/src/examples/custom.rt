@@ -1,5 +1,5 @@
 //! Custom properties and `var()` in the cascade (CSS Custom Properties 1, sections 2 and 3).
-ghost use Rattle.cascade_model.specs.inner.Examples.{attribute, environment_of_child, environment_of_root, leaf, of_child, of_root, page_with, parent, units};
+ghost use Rattle.cascade_model.specs.inner.Examples.{attribute, declared_by_root, environment_of_child, environment_of_root, leaf, of_child, of_root, page_with, parent, units};
 ghost use Rattle.std.specs.Prelude.{[], codes, ◌∷◌, ◌≡◌};
 ghost use Rattle.value_model.specs.Colors.{rgba};
 ghost use Rattle.value_model.specs.Values.{color, keyword};
@@ -143,4 +143,11 @@ pub fn computed_where_used()
         ≡ units 2560 }
     ensures width { of_child (page_with (codes "") (codes "") (parent 0 (codes "div") (attribute (codes "style") (codes "font-size:20px;--w:2em") ∷ []) (leaf 1 (codes "p") (attribute (codes "style") (codes "font-size:10px;width:var(--w);font-size:var(--f, 2em)") ∷ [])))) Width
         ≡ units 5120 }
+{}
+
+/// What is declared stands in order of name, each name once, with the value that wins.
+#[tactic(auto, unfolding(css_model::specs::inner::Nesting::levels_of, css_model::specs::inner::Pieces::pieces_after, css_model::specs::inner::Fronts::parts_after))]
+pub fn declared()
+    ensures in_order { declared_by_root (page_with (codes "") (codes "div{--b:1;--a:2}div{--b:3;--c:4}") (leaf 0 (codes "div") (attribute (codes "style") (codes "--a:5;width:1px") ∷ [])))
+        ≡ (codes "--a", codes "5") ∷ (codes "--b", codes "3") ∷ (codes "--c", codes "4") ∷ [] }
 {}
